@@ -22,6 +22,8 @@ uint32_t database_of(uint32_t type) {
     switch (type) {
         case 0:
         case 1:
+        case 19:
+        case 20:
             return 0;
         case 2:
         case 3:

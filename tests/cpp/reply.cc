@@ -9,7 +9,7 @@ constexpr uint32_t VERSION = 2;
 constexpr uint32_t MINUS_ONE = 0xffffffff;
 constexpr uint32_t IPV4 = 2;
 constexpr uint32_t IPV6 = 10;
-constexpr uint32_t TYPES[] = {0, 1, 2, 3, 4, 5, 6, 7, 14, 15, 16, 17};
+constexpr uint32_t TYPES[] = {0, 1, 2, 3, 4, 5, 6, 7, 14, 15, 16, 17, 19, 20};
 
 // The bytes are no reply, and this is the place of the first fault.
 struct Fault {
@@ -74,6 +74,17 @@ public:
         for (uint32_t size : sizes) {
             found.push_back(text(size));
         }
+        return found;
+    }
+
+    // A text that ends at its first zero byte.
+    Text ended() {
+        size_t end = bytes_.find('\0', at_);
+        if (end == Text::npos) {
+            throw Fault{bytes_.size()};
+        }
+        Text found = bytes_.substr(at_, end - at_);
+        at_ = end + 1;
         return found;
     }
 
@@ -182,6 +193,32 @@ Told service(Reply& reply) {
     return told.texts(reply.texts(aliases)).number((port & 0xff) << 8 | port >> 8);
 }
 
+// The texts of a netgroup's triples, which take as many bytes as announced.
+Told netgroup(Reply& reply) {
+    uint64_t count = reply.number();
+    size_t size_at = reply.at();
+    uint32_t size = reply.number();
+    size_t start = reply.at();
+    std::vector<Text> texts;
+    for (uint64_t done = 0; done < 3 * count; ++done) {
+        texts.push_back(reply.ended());
+    }
+    if (reply.at() - start != size) {
+        throw Fault{size_at};
+    }
+    return Told().number(0).texts(texts);
+}
+
+// Whether a netgroup has a triple.
+Told member(Reply& reply) {
+    size_t has_at = reply.at();
+    uint32_t has = reply.number();
+    if (has > 1) {
+        throw Fault{has_at};
+    }
+    return Told().number(0).number(has);
+}
+
 Told row(uint32_t type, Reply& reply) {
     switch (type) {
         case 0:
@@ -197,6 +234,10 @@ Told row(uint32_t type, Reply& reply) {
         case 16:
         case 17:
             return service(reply);
+        case 19:
+            return netgroup(reply);
+        case 20:
+            return member(reply);
         default:
             return host(reply);
     }
@@ -218,6 +259,10 @@ std::vector<uint32_t> lacking(uint32_t type, uint32_t error) {
         case 16:
         case 17:
             return {0, 0, 0, MINUS_ONE};
+        case 19:
+            return {0, 0};
+        case 20:
+            return {0};
         default:
             return {0, 0, MINUS_ONE, MINUS_ONE, 0, error};
     }
@@ -272,6 +317,11 @@ const std::vector<std::string> seeds = {
     hex("09 02000000 00000000 00000000"),
     hex("0a 02000000 01000000 04000000 04000000 01000000 00160000") + text("ssh") + text("tcp") + hex("03000000") + text("sh"),
     hex("0b 02000000 00000000 00000000 00000000 00000000 ffffffff"),
+    hex("0c 02000000 01000000 02000000 0c000000") + text("box") + text("ann") + text("") + text("") + text("") + text(""),
+    hex("0c 02000000 01000000 00000000 00000000"),
+    hex("0c 02000000 00000000 00000000 00000000"),
+    hex("0d 02000000 01000000 01000000"),
+    hex("0d 02000000 ffffffff 00000000"),
 };
 
 const std::vector<std::string> words = {

@@ -32,7 +32,7 @@ class Maker(seeded.Maker):
         if name == "switch":
             return super().file(name)
         pool = {"passwd": seeded.ACCOUNTS, "group": seeded.GROUPS, "hosts": seeded.HOSTS, "services": seeded.SERVICES}
-        pool |= {"extra-passwd": seeded.ACCOUNTS, "extra-group": seeded.GROUPS}
+        pool |= {"extra-passwd": seeded.ACCOUNTS, "extra-group": seeded.GROUPS, "netgroup": seeded.NETGROUPS}
         lines = list(pool[name])
         if name in ("passwd", "group"):
             lines += self.dice.choice([[], seeded.COMPAT])

@@ -7,7 +7,7 @@ import tempfile
 from pathlib import Path
 
 ROOT = Path(__file__).resolve().parent.parent.parent
-FILES = ["switch", "passwd", "group", "hosts", "services", "extra-passwd", "extra-group"]
+FILES = ["switch", "passwd", "group", "hosts", "services", "extra-passwd", "extra-group", "netgroup"]
 DATABASES = ["passwd", "group", "hosts", "services"]
 TYPES = {
     "user": 0,

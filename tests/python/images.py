@@ -24,9 +24,10 @@ USERS = (
 )
 ROOM, NOW = 128, 20
 FOUND_LIFE, ABSENT_LIFE = 3600, 20  # seconds, by default
-NAMES = {0: "PwName", 1: "PwUid"}  # the kinds of the database
-KINDS = ((0, 1), (2, 3, 15), (4, 5, 6, 7, 14), (16, 17))  # of passwd, group, hosts and services
+NAMES = {0: "PwName", 1: "PwUid", 19: "NetgrEnt", 20: "InNetgr"}  # the kinds of the database
+KINDS = ((0, 1, 19, 20), (2, 3, 15), (4, 5, 6, 7, 14), (16, 17))  # of passwd, group, hosts and services
 ABSENT = struct.pack("<9i", 2, 0, 0, 0, -1, -1, 0, 0, 0)
+NO_NETGROUP = {19: struct.pack("<4i", 2, 0, 0, 0), 20: struct.pack("<3i", 2, 0, 0)}  # no netgroup is found yet
 HEAD, DIGEST = 20, 32
 # The fixed part of an entry by version: its number, kind, lengths of key and reply, mark, count of reloads from version 3 on, and timeout.
 FIXED = {2: "<QIIIIQ", 3: "<QIIIIIQ"}
@@ -60,6 +61,8 @@ def number(key):
 
 def answer(kind, key):
     """The reply to a request over the users, and whether it says that there is none."""
+    if kind in NO_NETGROUP:
+        return NO_NETGROUP[kind], True
     for user in USERS:
         if (user[0].encode() == key) if kind == 0 else (user[2] == number(key)):
             return found(user), False

@@ -75,6 +75,7 @@ HOSTS = [
     *["10.0.0.ID NAME", "10.0.0.ID NAME OTHER # ann", "fd00::ID NAME", "\tFD00::ID\tOTHER NAME"],
     *["::ffff:10.0.0.ID NAME", "10.0.0 NAME", "10.0.0.ID # NAME", "fd00:::ID NAME"],
 ]
+NETGROUPS = ["NAME (,OTHER,) (-,NAME,)", "NAME OTHER", "NAME", "# NAME", "NAME (OTHER,", "NAME \\"]
 SERVICES = [
     *["NAME ID/tcp", "NAME ID/udp OTHER # x", "NAME\t65535/tcp", "NAME ID/tcp/x"],
     *["NAME 65536/tcp", "NAME ID", "NAME ID/ OTHER"],
@@ -223,7 +224,7 @@ class Maker:
             lines = lines[pick([0, 0, 2]) :]
         else:
             pool = {"passwd": ACCOUNTS + COMPAT, "group": GROUPS + COMPAT, "hosts": HOSTS, "services": SERVICES}
-            pool |= {"extra-passwd": ACCOUNTS, "extra-group": GROUPS}
+            pool |= {"extra-passwd": ACCOUNTS, "extra-group": GROUPS, "netgroup": NETGROUPS}
             lines = [self.filled(pick(pool[name])) for _ in range(pick([0, 4, 8, 12]))]
         return ("\n".join(lines) + pick(["", "\n"])).encode()
 

@@ -82,7 +82,7 @@ class Maker(contents.Maker):
         if name == "switch":
             return super().file(name) if self.dice.random() < 0.3 else self.switch()
         pool = {"passwd": seeded.ACCOUNTS, "group": seeded.GROUPS, "hosts": seeded.HOSTS, "services": seeded.SERVICES}
-        pool |= {"extra-passwd": seeded.ACCOUNTS, "extra-group": seeded.GROUPS}
+        pool |= {"extra-passwd": seeded.ACCOUNTS, "extra-group": seeded.GROUPS, "netgroup": seeded.NETGROUPS}
         lines = list(pool[name])
         if name in ("passwd", "group"):
             lines += self.dice.choice([[], COMPAT])

@@ -1,5 +1,5 @@
 -- A netgroup's reply that is read is spelled by the bytes, and what is spelled is read again.
-use Rattle.std.proofs.Common.{◌≡◌, ℕ, zero, suc, ◌+◌, ◌*◌, ◌/◌, ◌<◌, ◌≤◌, Bool, true, false, cond, ltb, eqb, not, if◌then◌else◌, List, [], ◌∷◌, ◌++◌, length, get_or, take, drop, Ok, Err, refl, sym, ap, subst, ◌∙◌, append_assoc, arith, inl, inr}
+use Rattle.std.proofs.Common.{◌≡◌, ℕ, zero, suc, ◌+◌, ◌*◌, ◌/◌, ◌<◌, ◌≤◌, Bool, true, false, ltb, eqb, not, if◌then◌else◌, List, [], ◌∷◌, ◌++◌, length, get_or, take, drop, Ok, refl, sym, ap, subst, ◌∙◌, append_assoc, arith, inl, inr}
 use Rattle.std.specs.List.{flat_map, AllByRecursion, after_first, position_or_len}
 use Rattle.std.proofs.lemmas.Bool.{eqb-true, eqb-false, eq-eqb, ne_eqb, ltb-true, lt-ltb}
 use Rattle.std.proofs.lemmas.List.{take_at, drop_at, length-append, length-take, get_or-take, get_or_append_left, get_or_at, append-nil}
@@ -9,7 +9,7 @@ use Rattle.std.proofs.lemmas.List.Sums.{split_at_first, fails_before_first, pass
 use Rattle.nsc_model.specs.Answer.{reply_limit}
 use Rattle.nsc_model.specs.Wire.{field, text, text_key, AreTriples, IsText}
 use Rattle.nsc_wire.specs.Replies.{◌>>=◌, number_at, ended_text_at, ended_texts_at, netgroup_at, member_at}
-use Rattle.nsc_wire.proofs.ReplyFields.{IsBytes, IsBytes-drop, bind_ok, bind_is, chosen, guard_is, ok_is, Takes, Takes-then, number_again, number_takes}
+use Rattle.nsc_wire.proofs.ReplyFields.{IsBytes, IsBytes-drop, bind_ok, chosen, guard_is, ok_is, Takes, Takes-then, number_again, number_takes}
 use Rattle.nsc_wire.proofs.ReplyTexts.{is_zero}
 use Rattle.nsc_wire.proofs.Sizes.{count_within}
 
@@ -48,7 +48,7 @@ ended_text_takes bytes x fits e =
 key_in_front : (one rest : List ℕ) → IsText one → text_key (text one ++ rest) ≡ one
 key_in_front one rest is =
     let bytes : List ℕ = one ++ (0 ∷ rest) in
-    let len : length bytes ≡ length one + (1 + length rest) = length-append one (0 ∷ rest) in
+    let len : length bytes ≡ length one + suc (length rest) = length-append one (0 ∷ rest) in
     let at : position_or_len is_zero bytes ≡ length one = position_or_len_is is_zero bytes (length one) 0 (omega (arith, len))
     (λ k lt. ne_eqb _ _ (λ zero_is. is k 0 lt (sym (get_or_append_left one (0 ∷ rest) 0 k lt) ∙ zero_is)))
     (λ lt. eq-eqb _ _ (get_or_at one 0 rest 0 (length one) refl)) in
@@ -118,9 +118,10 @@ netgroup_takes bytes x fits e =
     let size_is : b.0.0 ≡ length run = omega (arith, all, eqb-true (length d.0.1 + b.0.0) (length b.0.1) g.0) in
     let later = Takes-then a.0.1 (field b.0.0) b.0.1 run d.0.1 size.0 texts.0 in
     let whole = Takes-then bytes (field a.0.0) a.0.1 (field b.0.0 ++ run) d.0.1 count.0 later in
-    subst (λ (y : List (List ℕ) × List ℕ). Takes bytes (netgroup_body y.0) y.1 × AreTriples y.0) (ok_is d.0 x g.1)
-    (subst (λ (p : List ℕ). Takes bytes p d.0.1) (counted_is d.0.0 a.0.0 b.0.0 texts.1 size_is) whole,
-    record { whole = omega (arith, texts.1); texts_are = All-from_recursion IsText d.0.0 texts.2 })
+    subst (λ (y : List (List ℕ) × List ℕ). Takes bytes (netgroup_body y.0) y.1 × AreTriples y.0) (ok_is d.0 x g.1) (
+      subst (λ (p : List ℕ). Takes bytes p d.0.1) (counted_is d.0.0 a.0.0 b.0.0 texts.1 size_is) whole,
+      record { whole = omega (arith, texts.1); texts_are = All-from_recursion IsText d.0.0 texts.2 },
+    )
 
 pub netgroup_again : (texts : List (List ℕ)) → AreTriples texts → length (netgroup_body texts) ≤ reply_limit → netgroup_at (netgroup_body texts) ≡ Ok (texts, [])
 unfolding netgroup_at
@@ -132,7 +133,7 @@ netgroup_again texts are few =
     let texts_are : AllByRecursion IsText texts = recursion_from_All IsText texts are.texts_are in
     let last : ended_texts_at (3 * count) run ≡ Ok (texts, []) =
     ap (λ (n : ℕ). ended_texts_at n run) three ∙ (ap (ended_texts_at (length texts)) (sym (append-nil run)) ∙ ended_texts_again texts [] texts_are) in
-    let same : eqb (0 + length run) (length run) ≡ true = eq-eqb _ _ refl in
+    let same : eqb (0 + length run) (length run) ≡ true = eq-eqb (0 + length run) (length run) (omega arith) in
     let counted = number_again count (field (length run) ++ run) (omega (arith, few, size, count_within texts)) in
     let sized = number_again (length run) run (omega (arith, few, size)) in
     rw (counted, sized, last, same) refl
@@ -156,6 +157,6 @@ member_takes bytes x fits e =
     ]
 
 pub member_again : (has : Bool) → member_at (member_body has) ≡ Ok (has, [])
-unfolding member_at
+unfolding member_at number_at
 member_again true = refl
 member_again false = refl

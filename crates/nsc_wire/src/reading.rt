@@ -148,11 +148,7 @@ fn ended_text(bytes: &[u8]) -> Result<(&[u8], &[u8]), Broken>
 }
 
 // Reads `count` texts, each of which ends at its first zero byte.
-pub(crate) fn ended_texts(
-    alloc: Global,
-    count: u64,
-    bytes: &[u8],
-) -> Result<(Texts, &[u8]), Broken>
+pub(crate) fn ended_texts(alloc: Global, count: u64, bytes: &[u8]) -> Result<(Texts, &[u8]), Broken>
     ensures { Gives (λ x. (x.0, x.1.now)) result (ended_texts_at count bytes.now) }
 {
     let mut texts = Texts::new(alloc);
