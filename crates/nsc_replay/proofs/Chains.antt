@@ -70,4 +70,5 @@ replays settings s place left front out (exits.BadConf fault) e = absurd e
 replays settings s place left front out exits.SourceFault e = absurd e
 replays settings s place left front out exits.NetFault e = absurd e
 replays settings s place left front out exits.BadReply e = absurd e
+replays settings s place left front out (exits.AuditNo item) e = absurd e
 replays settings s place left front out _ e = tt

@@ -3,7 +3,7 @@ ghost use Rattle.std.specs.Prelude.{◌≤◌, length, IfOk};
 ghost use Rattle.nsc_model.specs.Answer.{reply_limit};
 ghost use Rattle.nsc_model.specs.Wire.{IsReplyOf, spelled};
 
-use nsc_base::{Bytes, NoMemory};
+use nsc_base::{Bytes, NoMemory, Texts};
 use nsc_model::{Kind, Passwd, Row};
 use nsc_wire::{Reply, ReplyFault, decode_reply, encode};
 use std::alloc::Global;
@@ -34,7 +34,7 @@ fn found_user(rt: HostRuntime) -> Result<(), Fail> {
 }
 
 // The replies where a database is disabled, which the program never sends.
-const DISABLED: [(Kind, &[u8]); 6] = [
+const DISABLED: [(Kind, &[u8]); 8] = [
     (
         Kind::PwUid,
         b"\x02\0\0\0\xff\xff\xff\xff\0\0\0\0\0\0\0\0\xff\xff\xff\xff\xff\xff\xff\xff\0\0\0\0\0\0\0\0\0\0\0\0",
@@ -56,6 +56,11 @@ const DISABLED: [(Kind, &[u8]); 6] = [
         Kind::ServPort,
         b"\x02\0\0\0\xff\xff\xff\xff\0\0\0\0\0\0\0\0\0\0\0\0\xff\xff\xff\xff",
     ),
+    (
+        Kind::NetgrEnt,
+        b"\x02\0\0\0\xff\xff\xff\xff\0\0\0\0\0\0\0\0",
+    ),
+    (Kind::InNetgr, b"\x02\0\0\0\xff\xff\xff\xff\0\0\0\0"),
 ];
 
 #[test]
@@ -105,6 +110,48 @@ fn replies_read_back(rt: HostRuntime) {
             "of {kind:?}"
         );
     }
+}
+
+// The replies that have one triple of a host and a user, and that a netgroup has a triple.
+const TRIPLE: &[u8] = b"\x02\0\0\0\x01\0\0\0\x01\0\0\0\x09\0\0\0box\0ann\0\0";
+
+const MEMBER: &[u8] = b"\x02\0\0\0\x01\0\0\0\x01\0\0\0";
+
+// The texts of `TRIPLE`.
+fn triple(alloc: Global) -> Result<Reply, NoMemory>
+    ensures netgroup { IfOk result (IsReplyOf Kind.NetgrEnt) }
+    ensures fits { IfOk result (λ reply. length (spelled Kind.NetgrEnt reply) ≤ reply_limit) }
+{
+    let mut texts = Texts::new(alloc);
+    texts.push(b"box")?;
+    texts.push(b"ann")?;
+    texts.push(b"")?;
+    Ok(Reply::Found(Row::Netgroup(texts)))
+}
+
+#[test]
+fn found_netgroup(rt: HostRuntime) -> Result<(), Fail> {
+    let alloc = rt.alloc();
+    let bytes = encode(alloc, Kind::NetgrEnt, &triple(alloc)?)?;
+    assert_eq!(rt; bytes.as_slice(), TRIPLE);
+    let bytes = encode(alloc, Kind::InNetgr, &Reply::Found(Row::Member(true)))?;
+    assert_eq!(rt; bytes.as_slice(), MEMBER);
+    assert_eq!(rt; read(alloc, Kind::NetgrEnt, TRIPLE), Decoded::Row);
+    assert_eq!(rt; read(alloc, Kind::InNetgr, MEMBER), Decoded::Row);
+    Ok(())
+}
+
+// The faults of a netgroup: a triple too few, an end in the last text, and a number that is neither 1 nor 0.
+#[test]
+fn bad_netgroups(rt: HostRuntime) -> Result<(), Fail> {
+    let alloc = rt.alloc();
+    let cut = &TRIPLE[..TRIPLE.len() - 1];
+    assert_eq!(rt; read(alloc, Kind::NetgrEnt, cut), Decoded::Bad(24));
+    let none = b"\x02\0\0\0\x01\0\0\0\0\0\0\0\x09\0\0\0box\0ann\0\0";
+    assert_eq!(rt; read(alloc, Kind::NetgrEnt, none), Decoded::Bad(12));
+    let two = b"\x02\0\0\0\x01\0\0\0\x02\0\0\0";
+    assert_eq!(rt; read(alloc, Kind::InNetgr, two), Decoded::Bad(8));
+    Ok(())
 }
 
 // The places of faults: bytes that end early, one byte more, and a field or text that breaks the layout.
