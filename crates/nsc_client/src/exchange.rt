@@ -2,6 +2,7 @@
 ghost use Rattle.std.specs.Prelude.{◌≡◌, ◌≤◌, Some, length, IfErr, IfOk};
 ghost use Rattle.nsc_outside.specs.StreamAt.{stream_in, stream_out};
 ghost use Rattle.nsc_model.specs.Entry.{key_limit};
+ghost use Rattle.nsc_model.specs.Kinds.{type_number};
 ghost use Rattle.nsc_model.specs.Wire.{asked_look, request_of};
 ghost use Rattle.nsc_sockets.specs.Connections.{IsPeer};
 ghost use Rattle.nsc_client.specs.SocketLink.{FailsOnlyBy, IsCut, IsOfPeer, IsSent, IsUnread, request_for};
@@ -50,7 +51,7 @@ pub(crate) fn exchange<R: Source, K: Sink>(
 fn request(alloc: Global, kind: Kind, key: &[u8]) -> Result<Bytes, NoMemory>
     requires { length key.now ≤ key_limit }
     ensures bytes { IfOk result (λ bytes. bytes ≡ request_for kind key.now) }
-    // Whoever reads it is asked for this kind and key.
+    // Whoever reads it is asked for this kind and key, or for a netgroup.
     ensures asks { IfOk result (λ bytes. request_of bytes ≡ asked_look (Some kind) (type_number kind) key.now) }
 {
     let mut head = [0; HEAD];

@@ -76,7 +76,9 @@ impl Sources {
         ensures { result ≡ no_files }
     {
         Sources {
-            files: [ABSENT, ABSENT, ABSENT, ABSENT, ABSENT, ABSENT, ABSENT, ABSENT],
+            files: [
+                ABSENT, ABSENT, ABSENT, ABSENT, ABSENT, ABSENT, ABSENT, ABSENT,
+            ],
         }
     }
 
