@@ -2,7 +2,7 @@
 ghost use Rattle.std.specs.Prelude.{◌≡◌, ◌++◌, OnOk};
 ghost use Rattle.nsc_fuzz.specs.Told.{address_told, addresses_told, group_told, host_told, row_told, service_told, user_told};
 
-use crate::put::{put_number, put_numbers, put_text, put_texts};
+use crate::put::{put_flag, put_number, put_numbers, put_text, put_texts};
 use nsc_base::NoMemory;
 use nsc_model::{Ai, Found6, Group, Host, Passwd, Row, Service};
 
