@@ -2,7 +2,7 @@
 use Rattle.std.proofs.Common.{◌≡◌, ◌≢◌, ℕ, Bool, true, false, List, [], ◌∷◌, ◌++◌, length, drop, flat_map, All, refl, sym, ap, subst, arith}
 use Rattle.std.proofs.lemmas.List.Elements.{All-head, All-tail}
 use Rattle.nsc_model.specs.Wire.{text, netgroup_found, member_found, AreTriples, IsText}
-use Rattle.nsc_laws.proofs.Spellings.{same_field, head_is, tail_is, length_text}
+use Rattle.nsc_laws.proofs.Spellings.{head_is, tail_is, length_text}
 
 -- a text that can be sent, and what is behind it: the first zero byte ends the text
 cut_text : (a b r s : List ℕ) → IsText a → IsText b → text a ++ r ≡ text b ++ s → (a ≡ b) × (r ≡ s)
