@@ -5,7 +5,7 @@ ghost use Rattle.nsc_model.specs.History.{IsFit, IsPrefix, Legal};
 ghost use Rattle.nsc_rule.specs.Seats.{AreOne, informed, retired_by, reading, seen_by, searching_by};
 
 use crate::map::Map;
-use crate::plays::{Absorbs, Copies, Hears, Meets, Shows};
+use crate::plays::{Absorbs, Copies, Meets, Shows};
 use crate::view::View;
 use atomic_table::Seat;
 use nsc_words::CYCLE;
@@ -76,8 +76,9 @@ impl Pass {
         map.words().join_seat::<Shows>(&mut self.seat, whole);
     }
 
-    /// It has seen the longer one of what it and the other one had seen. Both begin that. Its search stays, and where it has seen that
-    /// another table goes on, so does what it has seen.
+    /// Merges `other`: `self.seen` becomes the longer history, which both histories begin, and the searches of `other` are counted in.
+    ///
+    /// If `self` knows the table that goes on in place of these words, `self.seen` is whole and does not change.
     pub fn meet(&mut self, map: &Map, other: Pass)
         requires map { map.now.table ≡ self.old.table }
         requires other { map.now.table ≡ other.table }
@@ -88,15 +89,15 @@ impl Pass {
         ensures retired { self.new.retired ≡ self.old.retired }
         ensures whole { (newer : TableId) → self.old.retired ≡ Some newer → self.new.seen ≡ self.old.seen }
         ensures one { AreOne other.retired self.old.retired }
-        ensures searching { self.new.searching ≡ self.old.searching }
+        ensures searching { self.new.searching ≡ record self.old.searching { searches = self.old.searching.searches + other.searching.searches } }
     {
         let words = map.words();
         let other = other.into_seat();
-        words.join_seat::<Hears>(&mut self.seat, other);
+        words.join_seat::<Absorbs>(&mut self.seat, other);
         words.load::<Meets>(&mut self.seat, CYCLE);
     }
 
-    /// It counts the searches of the other one too, and has seen already what that had seen: it has seen that another table goes on.
+    /// Counts the searches of `other`, whose history begins `self.seen`: `self` knows the table that goes on in place of these words.
     pub fn absorb(&mut self, map: &Map, other: Pass)
         requires map { map.now.table ≡ self.old.table }
         requires other { map.now.table ≡ other.table }
@@ -105,9 +106,6 @@ impl Pass {
         ensures other { IsPrefix other.seen self.old.seen }
         ensures one { AreOne other.retired self.old.retired }
     {
-        let words = map.words();
-        let other = other.into_seat();
-        words.join_seat::<Absorbs>(&mut self.seat, other);
-        words.load::<Meets>(&mut self.seat, CYCLE);
+        self.meet(map, other);
     }
 }

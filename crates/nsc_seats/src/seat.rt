@@ -114,13 +114,14 @@ impl Seat {
         self.pass.absorb(&self.map, pass);
     }
 
-    /// It has seen the longer one of what it and another one had seen. Both begin that.
+    /// Merges `other`, a seat at this table: `self.seen` becomes the longer history, which both histories begin, and the searches of
+    /// `other` are counted in.
     pub fn meet(&mut self, other: Seat)
         requires { other.table ≡ self.old.table }
         ensures table { self.new.table ≡ self.old.table }
         ensures before { IsPrefix self.old.seen self.new.seen }
         ensures other { IsPrefix other.seen self.new.seen }
-        ensures searching { self.new.searching ≡ self.old.searching }
+        ensures searching { self.new.searching ≡ record self.old.searching { searches = self.old.searching.searches + other.searching.searches } }
     {
         let Seat { map: _, pass } = other;
         self.pass.meet(&self.map, pass);

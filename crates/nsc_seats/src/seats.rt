@@ -103,13 +103,15 @@ impl Seats {
         self.present.show(writer);
     }
 
-    /// It has seen then all that it and the other one had seen, and is present where the one of both is that has gone further.
+    /// Merges `other`: `self.seen` then begins with `self.old.seen` and with `other.seen`, and the searches of `other` are counted in.
+    ///
+    /// `self` is then present at the newer one of both present tables.
     pub fn meet(&mut self, other: Seats)
         requires { other.table ≡ self.old.table }
         ensures table { self.new.table ≡ self.old.table }
         ensures before { IsPrefix self.old.seen self.new.seen }
         ensures other { IsPrefix other.seen self.new.seen }
-        ensures searches { self.old.searching.searches ≤ self.new.searching.searches }
+        ensures searches { self.new.searching.searches ≡ self.old.searching.searches + other.searching.searches }
         ensures number { self.old.number ≤ self.new.number }
         ensures further { other.number ≤ self.new.number }
     {
