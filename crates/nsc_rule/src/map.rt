@@ -1,6 +1,7 @@
 // `Map`: a handle on the shared words of a database, and the making of new words.
 ghost use Rattle.std.specs.Prelude.{◌≡◌, None, IfOk};
 ghost use Rattle.nsc_words.specs.Layout.{IsLayout, table_words};
+ghost use Rattle.nsc_rule.specs.Pass.{whole_pass};
 ghost use Rattle.nsc_rule.specs.Plans.{Sound, cycle_of, first_plan, no_nodes};
 ghost use Rattle.nsc_rule.specs.Seats.{opening_plan, rested};
 
@@ -96,7 +97,7 @@ pub(crate) fn begin(
     requires sound { Sound (opening_plan layout origin) }
     ensures map { IfOk result (λ r. r.0.layout ≡ layout) }
     ensures pen { IfOk result (λ r. r.1 ≡ record { table = r.0.table; plan = opening_plan layout origin }) }
-    ensures pass { IfOk result (λ r. r.2 ≡ record { table = r.0.table; seen = (opening_plan layout origin).seen; retired = (opening_plan layout origin).retired; searching = rested (cycle_of (opening_plan layout origin)) }) }
+    ensures pass { IfOk result (λ r. r.2 ≡ whole_pass r.0.table (opening_plan layout origin)) }
 {
     let about = About { layout, origin };
     let (table, seat) = Words::of_words(alloc, words, &about)?;

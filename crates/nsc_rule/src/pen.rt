@@ -26,17 +26,14 @@ pub struct Pen {
 }
 
 impl Model for Pen {
-    ghost use Rattle.std.specs.Prelude.{◌≡◌, ℕ, ◌<◌, [], slice_index};
-    ghost use Rattle.nsc_words.specs.Layout.{table_words};
-    ghost use Rattle.nsc_rule.specs.Pen.{Pen};
-    ghost use Rattle.nsc_rule.specs.Plans.{Sound};
-    ghost use Rattle.nsc_rule.specs.Seats.{plan_by, writing};
+    ghost use Rattle.nsc_rule.specs.Pen.{IsPenAt, Pen};
+    ghost use Rattle.nsc_rule.specs.Seats.{plan_by};
 
     ghost Value = { Pen };
 
     ghost view = { λ p. record { table = p.seat.table_id; plan = plan_by p.seat.me.0 } };
 
-    ghost invariant = { λ p. (p.seat.me ≡ (writing (plan_by p.seat.me.0), [])) × Sound (plan_by p.seat.me.0) × (p.seat.table_id.words ≡ table_words (plan_by p.seat.me.0).layout) × ((i : ℕ) → i < 16 → slice_index p.heads i ≡ slice_index (plan_by p.seat.me.0).words i) };
+    ghost invariant = { λ p. IsPenAt p.seat.me p.seat.table_id.words p.heads };
 }
 
 impl Pen {

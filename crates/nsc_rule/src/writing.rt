@@ -4,7 +4,9 @@ ghost use Rattle.nsc_model.specs.History.{NoneLive, loads, newest};
 ghost use Rattle.nsc_model.specs.Machine.{last_count};
 ghost use Rattle.nsc_words.specs.Layout.{table_words};
 ghost use Rattle.nsc_rule.specs.Plans.{IsEven, IsOdd, end_in};
-ghost use Rattle.nsc_rule.specs.Strokes.{HasNode, IsFree, IsReady, MayEnd, MayUnlink, ShowsAgain, begun, changed, cleared, finished, invalidation_added, left, node_counted, poll_added, published, reloads_stored, stored};
+ghost use Rattle.nsc_rule.specs.Strokes.{HasNode, IsFree, IsReady, MayEnd, MayUnlink, ShowsAgain};
+ghost use Rattle.nsc_rule.specs.Strokes.{begun, changed, cleared, finished, invalidation_added, left, node_counted, poll_added};
+ghost use Rattle.nsc_rule.specs.Strokes.{published, reloads_stored, stored};
 
 use crate::map::Map;
 use crate::pen::Pen;

@@ -5,6 +5,7 @@ use Rattle.nsc_words.specs.Laid.{Among}
 use Rattle.nsc_rule.specs.declared.view.Plan.{Plan}
 use Rattle.nsc_rule.specs.Pen.{Pen}
 use Rattle.nsc_rule.specs.Plans.{end_in}
+use Rattle.nsc_rule.specs.Strokes.{stored}
 
 -- while no slide is under way, the words behind the nodes may be set
 abbrev pub is_free : Pen → ℕ → Bool
@@ -19,3 +20,7 @@ pub record IsEndedFront (p : Plan) (bucket : ℕ) (gone : Placed) : Type 0 where
   pub among : Among gone p.nodes
   pub ended : gone.usable ≡ false
   pub front : slice_index p.words (16 + bucket) ≡ gone.place
+
+-- the bucket leads where this node led, and nothing else changed
+abbrev pub IsPassed : ℕ → Placed → Pen → Pen → Type 0
+IsPassed bucket gone before after = after ≡ record before { plan = stored (16 + bucket) (slice_index before.plan.words (gone.place + 7)) before.plan }

@@ -6,6 +6,7 @@ use Rattle.nsc_words.specs.declared.node.Placed.{Placed}
 use Rattle.nsc_words.specs.Laid.{Among, Laid, end_of}
 use Rattle.nsc_words.specs.Layout.{IsLayout, arena_start}
 use Rattle.nsc_arena.specs.Changes.{IsMark}
+use Rattle.nsc_arena.specs.declared.reading.Head.{Head}
 use Rattle.nsc_arena.specs.ReadBack.{nodes_in}
 use Rattle.nsc_model.specs.Kinds.{is_request, type_number}
 use Rattle.nsc_model.specs.Machine.{Kept, last_count}
@@ -113,6 +114,18 @@ number_of (Some k) = Some k.entry.number
 -- the oldest entry of at least this number
 abbrev pub entry_from : ℕ → List Kept → Option Kept
 entry_from number entries = find (λ k. nat_le number k.entry.number) entries
+
+-- the entry of a node, by what was read of it
+abbrev pub entry_at : Head → EntryAt
+entry_at head = record {
+  number = head.number;
+  kind = kind_of head.kind;
+  version = head.version;
+  timeout = head.timeout;
+  reloads = head.reloads;
+  not_found = head.not_found;
+  next = head.number + 1;
+}
 
 -- what is told of an entry, if there is one; the next one has a number behind its own
 abbrev pub IsTold : Option Kept → Option EntryAt → Type 0

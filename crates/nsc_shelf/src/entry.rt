@@ -1,7 +1,8 @@
 // What callers are told of entries.
-ghost use Rattle.std.specs.Prelude.{◌≡◌, ◌+◌, ◌<◌};
+ghost use Rattle.std.specs.Prelude.{◌≡◌, ◌<◌};
 ghost use Rattle.nsc_model.specs.Machine.{last_count};
 ghost use Rattle.nsc_rule.specs.Entries.{kind_of};
+ghost use Rattle.nsc_shelf.specs.Shelf.{entry_at};
 
 use nsc_arena::Head;
 use nsc_model::Kind;
@@ -40,7 +41,7 @@ impl EntryAt {
     /// The entry of a node, by what was read of it.
     pub fn of(head: Head) -> EntryAt
         requires { head.number < last_count }
-        ensures { result ≡ record { number = head.number; kind = kind_of head.kind; version = head.version; timeout = head.timeout; reloads = head.reloads; not_found = head.not_found; next = head.number + 1 } }
+        ensures { result ≡ entry_at head }
     {
         EntryAt {
             number: head.number,

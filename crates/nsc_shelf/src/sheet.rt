@@ -7,8 +7,9 @@ ghost use Rattle.nsc_model.specs.History.{IsPrefix, NoneLive, loads, newest};
 ghost use Rattle.nsc_model.specs.Machine.{last_count, next_count};
 ghost use Rattle.nsc_rule.specs.Plans.{IsEven, IsOdd, Sound, cycle_of, end_in, succeeding};
 ghost use Rattle.nsc_rule.specs.Seats.{informed, rested};
-ghost use Rattle.nsc_rule.specs.Strokes.{HasNode, IsReady, MayEnd, ShowsAgain, begun, changed, cleared, finished, invalidation_added, left, node_counted, poll_added, published, reloads_stored, stored};
-ghost use Rattle.nsc_shelf.specs.Sheet.{IsEndedFront};
+ghost use Rattle.nsc_rule.specs.Strokes.{HasNode, IsReady, MayEnd, ShowsAgain, begun, changed, cleared, finished};
+ghost use Rattle.nsc_rule.specs.Strokes.{invalidation_added, left, node_counted, poll_added, published, reloads_stored, stored};
+ghost use Rattle.nsc_shelf.specs.Sheet.{IsEndedFront, IsPassed};
 
 use crate::finding::Found;
 use nsc_arena::Words;
@@ -175,7 +176,7 @@ impl Sheet {
         requires even { IsEven self.old.plan }
         requires counted { self.old.plan.counted ≡ true }
         requires bucket { bucket < self.old.plan.layout.buckets }
-        ensures unlinked { OnTrue result ((gone : Placed) × IsEndedFront self.old.plan bucket gone × (self.new ≡ record self.old { plan = stored (16 + bucket) (slice_index self.old.plan.words (gone.place + 7)) self.old.plan })) }
+        ensures unlinked { OnTrue result ((gone : Placed) × IsEndedFront self.old.plan bucket gone × IsPassed bucket gone self.old self.new) }
         ensures none { OnFalse result ((gone : Placed) → IsEndedFront self.old.plan bucket gone → ⊥) }
         ensures stays { OnFalse result (self.new ≡ self.old) }
     {

@@ -1,17 +1,19 @@
 -- What a writer is: the words that it writes, the history, the cache that it has of it, how its lookups went, and the words of a
 -- slide of its entries while one is under way; and what its calls come to.
-use Rattle.std.specs.Prelude.{◌≡◌, ℕ, ◌+◌, ◌<◌, ◌≤◌, min, Bool, true, false, List, [], ◌∷◌, ◌++◌, length, slice_index, Option, Some, None, Result, Ok, Err}
+use Rattle.std.specs.Prelude.{◌≡◌, ℕ, ◌+◌, ◌/◌, ◌<◌, ◌≤◌, min, Bool, true, false, List, [], ◌∷◌, ◌++◌, length, slice_index, Option, Some, None, Result, Ok, Err}
 use Rattle.atomic_table.specs.Seated.{TableId}
 use Rattle.nsc_words.specs.declared.layout.Layout.{Layout}
 use Rattle.nsc_model.specs.declared.record.Ending.{Ending}
 use Rattle.nsc_model.specs.declared.record.Ending.TheVariants as ending
 use Rattle.nsc_model.specs.declared.record.Record.{Record}
-use Rattle.nsc_model.specs.declared.record.Record.TheVariants.{End, Invalid, Load}
+use Rattle.nsc_model.specs.declared.record.Record.TheVariants.{Change, End, Invalid, Load}
+use Rattle.nsc_model.specs.declared.answer.Request.{Request}
 use Rattle.nsc_model.specs.declared.store.Spent.{Spent as SpentCount}
+use Rattle.nsc_model.specs.declared.store.Stats.{Stats}
 use Rattle.nsc_model.specs.Content.{Content}
 use Rattle.nsc_model.specs.Entry.{kept_limit}
 use Rattle.nsc_model.specs.History.{version_in, PolledSince}
-use Rattle.nsc_model.specs.Machine.{Kept, Cache, Passed, Stopped, Refusal, TooLarge, Discarded, Present, Spent, Full, refusal, last_count, live_entry, entry_words, by_invalidation, emptied, ends_of}
+use Rattle.nsc_model.specs.Machine.{Kept, Cache, Passed, Stopped, Refusal, TooLarge, Discarded, Present, Spent, Full, refusal, last_count, live_entry, entry_words, by_invalidation, emptied, ends_of, new_cache, used_now}
 use Rattle.nsc_model.specs.Answers.{answer_of}
 use Rattle.nsc_shelf.specs.declared.entry.EntryAt.{EntryAt}
 use Rattle.nsc_laws.specs.Calls.{Tells}
@@ -21,7 +23,7 @@ use Rattle.nsc_shelf.specs.Shelf.{IsHeld, IsTold, Shelf, number_of, others_than,
 use Rattle.nsc_writer.specs.declared.loaded.Inserted.{Inserted}
 use Rattle.nsc_writer.specs.declared.loaded.Inserted.TheVariants as inserted
 use Rattle.nsc_writer.specs.declared.loaded.Stamp.{Stamp}
-use Rattle.nsc_shelf.specs.Uses.{Uses}
+use Rattle.nsc_shelf.specs.Uses.{Uses, counted}
 use Rattle.nsc_writer.specs.declared.writer.Cause.{Cause}
 use Rattle.nsc_writer.specs.declared.writer.Cause.TheVariants as cause
 use Rattle.nsc_writer.specs.Loaded.{Loaded, kept_of}
@@ -46,6 +48,34 @@ writer_of pen layout content =
     let shelf = shelf_in pen.plan.nodes pen.plan.words layout in
     record { table = pen.table; layout = layout; seen = pen.plan.seen; cache = cache_of content (slice_index pen.plan.words 2) (slice_index pen.plan.words 1) shelf; hits = shelf.hits; misses = shelf.misses; slide = slide_of pen.plan.words }
 
+-- the writer of an empty database: this content is version 0, and nothing is counted
+abbrev pub new_writer : TableId → Layout → Content → Writer
+new_writer table layout content = record {
+  table = table;
+  layout = layout;
+  seen = Change 0 content ∷ [];
+  cache = new_cache content;
+  hits = record { found = 0; not_found = 0 };
+  misses = record { found = 0; not_found = 0 };
+  slide = None;
+}
+
+-- what a writer counts; two counts of CYCLE are one compaction
+abbrev pub stats_of : Writer → Stats
+stats_of w = record {
+  enabled = true;
+  hits = w.hits.found;
+  negative_hits = w.hits.not_found;
+  misses = w.misses.found;
+  negative_misses = w.misses.not_found;
+  entries = length w.cache.entries;
+  used = w.cache.used;
+  arena = w.layout.arena;
+  invalidations = w.cache.epoch;
+  compactions = w.cache.cycle / 2;
+  addfailed = w.cache.add_failed;
+}
+
 -- what the pen knows is what the history tells
 pub record IsWriter (pen : Pen) (layout : Layout) (content : Content) (live : ℕ) (mark : Mark) (hints : List ℕ) : Type 0 where
   pub held : IsHeld pen.plan layout live mark hints
@@ -54,6 +84,10 @@ pub record IsWriter (pen : Pen) (layout : Layout) (content : Content) (live : �
 -- the writer once an event of the machine passed
 abbrev pub passed_by : Passed → Writer → Writer
 passed_by passed w = record w { cache = passed.cache; seen = passed.adds ++ w.seen }
+
+-- the writer once the live entry of a request answered, with a not-found reply or another one
+abbrev pub with_hit : Request → Bool → Writer → Writer
+with_hit request not_found w = record w { cache = record w.cache { entries = used_now request w.cache.entries }; hits = counted not_found w.hits }
 
 -- ---- polls
 

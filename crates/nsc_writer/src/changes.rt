@@ -8,7 +8,8 @@ ghost use Rattle.nsc_model.specs.History.{Allows, IsLive, PolledSince};
 ghost use Rattle.nsc_model.specs.Machine.{last_count, polled};
 ghost use Rattle.nsc_shelf.specs.Shelf.{has_number};
 ghost use Rattle.nsc_writer.specs.Loaded.{kept_of};
-ghost use Rattle.nsc_writer.specs.Writer.{Inserts, IsAnswered, IsAdmitted, IsNewest, IsRefused, Polls, SaysRefused, all_ended, ending_of, emptied_by, is_full, refusal_of, with_entry, with_failed, without_entry};
+ghost use Rattle.nsc_writer.specs.Writer.{Inserts, IsAnswered, IsAdmitted, IsNewest, IsRefused, Polls, SaysRefused};
+ghost use Rattle.nsc_writer.specs.Writer.{all_ended, ending_of, emptied_by, is_full, refusal_of, with_entry, with_failed, without_entry};
 
 use crate::loaded::{Inserted, Loaded, Stamp};
 use crate::writer::{Cause, Writer};

@@ -18,16 +18,14 @@ pub struct Former {
 }
 
 impl Model for Former {
-    ghost use Rattle.std.specs.Prelude.{◌≡◌, None, Some};
-    ghost use Rattle.nsc_model.specs.History.{IsPrefix};
     ghost use Rattle.nsc_rule.specs.Plans.{cycle_of};
-    ghost use Rattle.nsc_writer.specs.Former.{Former};
+    ghost use Rattle.nsc_writer.specs.Former.{Former, IsFormer};
 
     ghost Value = { Former };
 
     ghost view = { λ f. record { table = f.pen.table; seen = f.pen.plan.seen; cycle = cycle_of f.pen.plan; newer = f.newer; stock = f.stock } };
 
-    ghost invariant = { λ f. (f.map.table ≡ f.pen.table) × (f.stock.table ≡ f.newer.table) × (f.pen.plan.retired ≡ Some f.newer.table) × (f.stock.retired ≡ None) × IsPrefix f.pen.plan.seen f.stock.seen × (f.stock.searching.searches ≡ 0) };
+    ghost invariant = { λ f. IsFormer f.map f.pen f.newer f.stock };
 }
 
 impl Former {

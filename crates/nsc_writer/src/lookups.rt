@@ -1,12 +1,12 @@
 // Lookups of entries, and the list of them.
 ghost use Rattle.std.specs.Prelude.{◌≡◌, ◌+◌, ◌≤◌, min, None, IfNone, IfSome, slice_index};
 ghost use Rattle.nsc_model.specs.Entry.{key_limit, kept_limit};
-ghost use Rattle.nsc_model.specs.Machine.{last_count, live_entry, used_now};
+ghost use Rattle.nsc_model.specs.Machine.{last_count, live_entry};
 ghost use Rattle.nsc_rule.specs.Strokes.{stored};
 ghost use Rattle.nsc_shelf.specs.Shelf.{GivesHit, IsTold, entry_from, number_of};
 ghost use Rattle.nsc_shelf.specs.Uses.{counted};
 ghost use Rattle.nsc_writer.specs.Raised.{raised};
-ghost use Rattle.nsc_writer.specs.Writer.{IsListed};
+ghost use Rattle.nsc_writer.specs.Writer.{IsListed, with_hit};
 
 use crate::writer::Writer;
 use nsc_arena::{head_at, walk};
@@ -40,7 +40,7 @@ impl Writer {
         requires still { self.old.slide ≡ None }
         ensures gives { GivesHit (live_entry (record { kind = kind; key = key.now }) self.old.cache.entries) result reply.new.content }
         ensures stays { IfNone result (self.new ≡ self.old) }
-        ensures used { IfSome result (λ hit. self.new ≡ record self.old { cache = record self.old.cache { entries = used_now (record { kind = kind; key = key.now }) self.old.cache.entries }; hits = counted hit.not_found self.old.hits }) }
+        ensures used { IfSome result (λ hit. self.new ≡ with_hit (record { kind = kind; key = key.now }) hit.not_found self.old) }
         ensures limit { reply.new.limit ≡ reply.old.limit }
     {
         reply.clear();

@@ -8,6 +8,7 @@ ghost use Rattle.nsc_model.specs.Machine.{last_count, new_cache};
 ghost use Rattle.nsc_laws.specs.Calls.{Tells};
 ghost use Rattle.nsc_words.specs.Layout.{IsLayout, table_words};
 ghost use Rattle.nsc_rule.specs.Seats.{informed, rested};
+ghost use Rattle.nsc_writer.specs.Writer.{new_writer, stats_of};
 
 use nsc_base::NoMemory;
 use nsc_model::{Content, Stats};
@@ -62,7 +63,7 @@ impl Writer {
         content: Arc<Content>,
     ) -> Result<(Writer, Pass), NoMemory>
         requires { IsLayout layout }
-        ensures writer { IfOk result (λ r. r.0 ≡ record { table = r.1.table; layout = layout; seen = record_of.Change 0 (arc_value content) ∷ []; cache = new_cache (arc_value content); hits = record { found = 0; not_found = 0 }; misses = record { found = 0; not_found = 0 }; slide = None }) }
+        ensures writer { IfOk result (λ r. r.0 ≡ new_writer r.1.table layout (arc_value content)) }
         ensures pass { IfOk result (λ r. r.1.seen ≡ record_of.Change 0 (arc_value content) ∷ []) }
     {
         let (map, pen, pass) = start(alloc, layout, &content)?;
@@ -144,7 +145,7 @@ impl Writer {
         ensures compactions { 2 * result.compactions ≡ self.now.cache.cycle }
         ensures bound { self.now.cache.cycle ≤ last_count }
         ensures within { self.now.cache.used ≤ self.now.layout.arena }
-        ensures value { result ≡ record { enabled = true; hits = self.now.hits.found; negative_hits = self.now.hits.not_found; misses = self.now.misses.found; negative_misses = self.now.misses.not_found; entries = length self.now.cache.entries; used = self.now.cache.used; arena = self.now.layout.arena; invalidations = self.now.cache.epoch; compactions = self.now.cache.cycle / 2; addfailed = self.now.cache.add_failed } }
+        ensures value { result ≡ stats_of self.now }
     {
         self.sheet.learn();
         Stats {
