@@ -1,6 +1,6 @@
-// `compact`: one compaction by a writer, which frees the words of ended entries.
-ghost use Rattle.std.specs.Prelude.{◌≡◌, ◌<◌, ◌+◌, None, IfOk, IfErr};
-ghost use Rattle.nsc_model.specs.Machine.{all_words, last_count};
+ghost use Rattle.std.specs.Prelude.{◌≡◌, None, IfOk, IfErr};
+ghost use Rattle.nsc_model.specs.Machine.{last_count};
+ghost use Rattle.nsc_compactor.specs.Compacting.{Compacts};
 
 use nsc_arena::slide;
 use nsc_model::Spent;
@@ -11,7 +11,7 @@ use nsc_writer::Writer;
 /// compaction, stands at its end.
 pub fn compact(writer: &mut Writer) -> Result<u64, Spent>
     requires { writer.old.slide ≡ None }
-    ensures done { IfOk result (λ freed. (writer.old.cache.cycle < last_count) × (freed + all_words writer.old.cache.entries ≡ writer.old.cache.used) × (writer.new ≡ record writer.old { cache = record writer.old.cache { cycle = writer.old.cache.cycle + 2; used = all_words writer.old.cache.entries } })) }
+    ensures done { IfOk result (λ freed. Compacts freed writer.old writer.new) }
     ensures spent { IfErr result (λ spent. (writer.old.cache.cycle ≡ last_count) × (spent.count ≡ last_count) × (writer.new ≡ writer.old)) }
 {
     let map = writer.map().layout();

@@ -3,6 +3,7 @@ ghost use Rattle.std.specs.Prelude.{◌≡◌, ◌≤◌, List, ℕ, length, IfO
 ghost use Rattle.nsc_model.specs.Answers.{answer_of, request_beside};
 ghost use Rattle.nsc_model.specs.Entry.{key_limit};
 ghost use Rattle.nsc_model.specs.Kinds.{database_of};
+ghost use Rattle.nsc_propagate.specs.Answered.{OfAnswered};
 
 use itoa::Buffer;
 use nsc_base::{Bytes, NoMemory, u32_at};
@@ -26,7 +27,7 @@ pub fn id_request(
     answer: &Answer,
 ) -> Result<Option<Request>, NoMemory>
     requires answered { (key : List ℕ) × (answer.now ≡ answer_of content.now (record { kind = kind; key = key })) }
-    ensures request { (key : List ℕ) → answer.now ≡ answer_of content.now (record { kind = kind; key = key }) → IfOk result (λ id. id ≡ request_beside content.now (record { kind = kind; key = key })) }
+    ensures request { OfAnswered content.now kind answer.now (λ request. IfOk result (λ id. id ≡ request_beside content.now request)) }
     ensures database { IfOk result (λ id. IfSome id (λ request. database_of request.kind ≡ database_of kind)) }
     ensures bound { IfOk result (λ id. IfSome id (λ request. length request.key ≤ key_limit)) }
 {

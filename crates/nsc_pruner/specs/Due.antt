@@ -1,12 +1,13 @@
 -- Entries whose time is over.
-use Rattle.std.specs.Prelude.{◌≡◌, ℕ, ◌<◌, Bool, false, if◌then◌else◌, List, [], ◌∷◌, Option}
+use Rattle.std.specs.Prelude.{◌≡◌, ℕ, ◌<◌, ◌||◌, Bool, false, if◌then◌else◌, List, [], ◌∷◌, Option}
 use Rattle.nsc_model.specs.declared.answer.Request.{Request}
 use Rattle.nsc_model.specs.declared.record.Record.{Record}
 use Rattle.nsc_model.specs.Entry.{Entry}
 use Rattle.nsc_model.specs.History.{HasLoad}
-use Rattle.nsc_model.specs.Machine.{Kept, is_dropped}
+use Rattle.nsc_model.specs.Machine.{Kept, is_dropped, reached}
 use Rattle.nsc_writer.specs.declared.writer.Cause.{Cause}
 use Rattle.nsc_writer.specs.declared.writer.Cause.TheVariants as cause
+use Rattle.nsc_shelf.specs.declared.entry.EntryAt.{EntryAt}
 use Rattle.nsc_shelf.specs.Shelf.{has_number}
 use Rattle.nsc_writer.specs.Writer.{Writer, ending_of, without_entry}
 
@@ -21,6 +22,16 @@ pub record Due : Type 0 where
 
 abbrev pub due_from : Option ℕ → Kept → Due
 due_from limit k = record { number = k.entry.number; request = k.entry.request; reloads = k.reloads; dropped = is_dropped limit k; ended = false }
+
+-- the one of an entry that is known but for this key
+abbrev pub due_at : Option ℕ → EntryAt → List ℕ → Due
+due_at limit entry key = record {
+  number = entry.number;
+  request = record { kind = entry.kind; key = key };
+  reloads = entry.reloads;
+  dropped = entry.not_found || reached limit entry.reloads;
+  ended = false;
+}
 
 -- why it ends
 abbrev pub due_cause_of : ℕ → Due → Cause

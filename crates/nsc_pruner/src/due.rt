@@ -3,7 +3,7 @@ ghost use Rattle.std.specs.Prelude.{◌≡◌, ◌≤◌, ◌||◌, false, All, 
 ghost use Rattle.nsc_model.specs.Entry.{kept_limit, key_limit};
 ghost use Rattle.nsc_shelf.specs.Shelf.{IsTold, entry_from};
 ghost use Rattle.nsc_model.specs.Machine.{Kept, due_of, next_count, reached};
-ghost use Rattle.nsc_pruner.specs.Due.{IsOver, due_cause_of, due_from, marked_by, pruned_by};
+ghost use Rattle.nsc_pruner.specs.Due.{IsOver, due_at, due_cause_of, due_from, marked_by, pruned_by};
 
 use nsc_base::{Buf, Bytes, NoMemory};
 use nsc_model::{KEPT_LIMIT, KEY_LIMIT, Kind, Request, has_reached, next_count};
@@ -149,7 +149,7 @@ fn due_at(
 // What is known of an entry with this key, whose time is over.
 fn due_from(alloc: Global, entry: EntryAt, key: &[u8], limit: Option<u32>) -> Result<Due, NoMemory>
     requires { length key.now ≤ key_limit }
-    ensures { IfOk result (λ due. due ≡ record { number = entry.number; request = record { kind = entry.kind; key = key.now }; reloads = entry.reloads; dropped = entry.not_found || reached limit entry.reloads; ended = false }) }
+    ensures { IfOk result (λ due. due ≡ due_at limit entry key.now) }
 {
     let kind = entry.kind;
     let key = Bytes::copy(alloc, key)?;

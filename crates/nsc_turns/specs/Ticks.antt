@@ -29,6 +29,10 @@ abbrev pub compacted_for : List Due → Cache → Result Passed Stopped
 compacted_for [] cache = Ok (unchanged cache)
 compacted_for (d ∷ ended) cache = compacted cache
 
+-- the event of those that are due: they end, and there is a compaction where any of them did
+abbrev pub swept_by : ℕ → List Due → Writer → Result Passed Stopped
+swept_by now due w = compacted_for (ended_of (marked_by now due w)) (pruned_by now due w).cache
+
 -- one of them that was ended is loaded again, if it is to be; the writer's history tells its cache
 abbrev pub ReloadsOne : Due → Option Loaded → Writer → Writer → Type 0
 ReloadsOne d None before after = after ≡ before
@@ -43,4 +47,4 @@ Reloads (d ∷ due) (load ∷ loads) before after = (mid : Writer) × ReloadsOne
 -- those that are due end, there is a compaction where any did, and what was made for those that ended is inserted
 abbrev pub Renews : ℕ → List Due → List (Option Loaded) → Writer → Writer → Type 0
 Renews now due loads before after =
-    (swept : Writer) × Completes (compacted_for (ended_of (marked_by now due before)) (pruned_by now due before).cache) (pruned_by now due before) swept × Reloads (marked_by now due before) loads swept after
+    (swept : Writer) × Completes (swept_by now due before) (pruned_by now due before) swept × Reloads (marked_by now due before) loads swept after

@@ -3,7 +3,7 @@ ghost use Rattle.std.specs.Prelude.{◌≡◌, ◌≤◌, All, None, length, IfE
 ghost use Rattle.nsc_model.specs.Machine.{is_outdated};
 ghost use Rattle.nsc_pruner.specs.Due.{IsOver, marked_by, pruned_by};
 ghost use Rattle.nsc_writer.specs.Writer.{IsAnswered};
-ghost use Rattle.nsc_turns.specs.Ticks.{Checks, Reloads, Renews, compacted_for, ended_of};
+ghost use Rattle.nsc_turns.specs.Ticks.{Checks, Reloads, Renews, swept_by};
 ghost use Rattle.nsc_turns.specs.Turns.{Completes, Stops};
 
 use crate::entries::invalidate;
@@ -62,7 +62,7 @@ pub fn renew(
     requires many { length loads.now ≤ length due.old }
     requires still { writer.old.slide ≡ None }
     ensures renews { OnOk result (Renews now due.old loads.now writer.old writer.new) }
-    ensures stops { IfErr result (λ spent. Stops (compacted_for (ended_of (marked_by now due.old writer.old)) (pruned_by now due.old writer.old).cache) spent.count (pruned_by now due.old writer.old) writer.new) }
+    ensures stops { IfErr result (λ spent. Stops (swept_by now due.old writer.old) spent.count (pruned_by now due.old writer.old) writer.new) }
 {
     writer.learn();
     match end_due(writer, due, now) {
@@ -80,8 +80,8 @@ fn end_due(writer: &mut Writer, due: &mut [Due], now: u64) -> Result<(), Spent>
     requires over { All (IsOver writer.old.seen now) due.old }
     requires still { writer.old.slide ≡ None }
     ensures marked { due.new ≡ marked_by now due.old writer.old }
-    ensures completes { OnOk result (Completes (compacted_for (ended_of (marked_by now due.old writer.old)) (pruned_by now due.old writer.old).cache) (pruned_by now due.old writer.old) writer.new) }
-    ensures stops { IfErr result (λ spent. Stops (compacted_for (ended_of (marked_by now due.old writer.old)) (pruned_by now due.old writer.old).cache) spent.count (pruned_by now due.old writer.old) writer.new) }
+    ensures completes { OnOk result (Completes (swept_by now due.old writer.old) (pruned_by now due.old writer.old) writer.new) }
+    ensures stops { IfErr result (λ spent. Stops (swept_by now due.old writer.old) spent.count (pruned_by now due.old writer.old) writer.new) }
 {
     let ended = prune_ends(writer, due, now);
     if ended == 0 {
