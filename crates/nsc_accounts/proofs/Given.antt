@@ -87,28 +87,9 @@ GroupOf name looked = IfSome (group_in looked) (λ g. g.name ≡ name)
 -- a row is joined only where both are groups, or both are ids
 each_row_joins : (P : Looked → Type 0) → ((h g : Group) → P (Found (row.Group h)) → P (Found (row.Group (joined_group h g))))
     → ((ids others : List ℕ) → P (Found (row.Groups ids)) → P (Found (row.Groups (joined_ids ids others)))) → Joins P
-each_row_joins P groups ids (row.Passwd p) found has is = has
-each_row_joins P groups ids (row.Host h) found has is = has
-each_row_joins P groups ids (row.Service s) found has is = has
-each_row_joins P groups ids (row.Ai a) found has is = has
-each_row_joins P groups ids (row.Netgroup t) found has is = has
-each_row_joins P groups ids (row.Member m) found has is = has
 each_row_joins P groups ids (row.Group h) (row.Group g) has is = groups h g has
-each_row_joins P groups ids (row.Group h) (row.Passwd p) has is = has
-each_row_joins P groups ids (row.Group h) (row.Host g) has is = has
-each_row_joins P groups ids (row.Group h) (row.Service s) has is = has
-each_row_joins P groups ids (row.Group h) (row.Ai a) has is = has
-each_row_joins P groups ids (row.Group h) (row.Groups others) has is = has
-each_row_joins P groups ids (row.Group h) (row.Netgroup t) has is = has
-each_row_joins P groups ids (row.Group h) (row.Member m) has is = has
 each_row_joins P groups ids (row.Groups i) (row.Groups others) has is = ids i others has
-each_row_joins P groups ids (row.Groups i) (row.Passwd p) has is = has
-each_row_joins P groups ids (row.Groups i) (row.Group g) has is = has
-each_row_joins P groups ids (row.Groups i) (row.Host h) has is = has
-each_row_joins P groups ids (row.Groups i) (row.Service s) has is = has
-each_row_joins P groups ids (row.Groups i) (row.Ai a) has is = has
-each_row_joins P groups ids (row.Groups i) (row.Netgroup t) has is = has
-each_row_joins P groups ids (row.Groups i) (row.Member m) has is = has
+each_row_joins P groups ids held other has is = has
 
 -- a joined group has the name of the held one
 joined_name : (h g : Group) → (joined_group h g).name ≡ h.name
