@@ -1,6 +1,7 @@
 -- What a plain cache holds apart from its contents, and insertions into it.
 use Rattle.std.specs.Prelude.{ℕ, ◌+◌, ◌≤◌, Bool, true, false, List, [], ◌∷◌, count_by, Option, Some, None}
 use Rattle.nsc_model.specs.declared.answer.Request.{Request}
+use Rattle.nsc_model.specs.Content.{Content}
 use Rattle.nsc_model.specs.Kinds.{is_request}
 use Rattle.nsc_model.specs.declared.conf.DbConf.{DbConf}
 use Rattle.nsc_model.specs.Machine.{Kept, Cache, Refusal, all_words, last_count, made_entry, refusal, room_of, tried_by}
@@ -18,6 +19,19 @@ pub record EntryList : Type 0 where
 -- the cache that is this one but for its entries and their counts
 abbrev pub over : Cache → EntryList → Cache
 over cache table = record cache { entries = table.entries; used = table.used; inserted = table.inserted; cycle = table.cycle; add_failed = table.add_failed }
+
+-- the cache of this content as its version of this number, and of this number of invalidations, with these entries and their counts
+abbrev pub cache_with : Content → ℕ → ℕ → EntryList → Cache
+cache_with content version epoch table = record {
+  sources = content;
+  newest_version = version;
+  entries = table.entries;
+  used = table.used;
+  epoch = epoch;
+  inserted = table.inserted;
+  cycle = table.cycle;
+  add_failed = table.add_failed;
+}
 
 -- how many of these entries answer a request, and how many of these answered requests are that one
 abbrev pub entries_for : Request → List Kept → ℕ

@@ -9,7 +9,7 @@ ghost use Rattle.nsc_model.specs.Answers.{answer_of};
 ghost use Rattle.nsc_model.specs.Machine.{new_cache, cached, polled, kept_answer, lookup, pruned, is_outdated, checked, tick, ticked_after, ticked_by, invalidated, unchanged};
 ghost use Rattle.nsc_model.specs.Events.{TurnsTo, ComesTo};
 ghost use Rattle.nsc_model.specs.Faults.{FaultsBy, StopsBy, GivesUpBy};
-ghost use Rattle.nsc_plain.specs.PlainCache.{HitsBy, ticked_at};
+ghost use Rattle.nsc_plain.specs.PlainCache.{HitsBy, LookupFails, TickFails, ticked_at};
 
 use crate::db_files::DbFiles;
 use crate::insertion::{Insertion, answer_beside, answer_due};
@@ -36,6 +36,7 @@ impl Model for PlainCache {
     ghost use Rattle.std.specs.Prelude.{◌≤◌};
     ghost use Rattle.std.specs.Arc.{arc_value};
     ghost use Rattle.nsc_model.specs.Machine.{last_count};
+    ghost use Rattle.nsc_plain.specs.EntryList.{cache_with};
     ghost use Rattle.nsc_plain.specs.PlainCache.{PlainCache};
 
     ghost Value = { PlainCache };
@@ -43,7 +44,7 @@ impl Model for PlainCache {
     ghost view = { λ c. record {
       settings = c.conf;
       reloads = c.reloads;
-      cache = record { sources = arc_value c.content; newest_version = c.newest_version; entries = c.table.entries; used = c.table.used; epoch = c.epoch; inserted = c.table.inserted; cycle = c.table.cycle; add_failed = c.table.add_failed };
+      cache = cache_with (arc_value c.content) c.newest_version c.epoch c.table;
       ticked = c.ticked;
     } };
 
@@ -91,7 +92,7 @@ impl PlainCache {
         ensures ticked { self.new.ticked ≡ self.old.ticked }
         ensures bound { IfOk result (λ reply. length reply ≤ reply_limit) }
         ensures turn { IfOk result (λ reply. TurnsTo (lookup self.old.settings now (arc_value content.now) (record { kind = kind; key = key.now }) self.old.cache) self.new.cache reply) }
-        ensures fault { IfErr result (FaultsBy (lookup self.old.settings now (arc_value content.now) (record { kind = kind; key = key.now }) self.old.cache) (arc_value content.now) self.old.cache self.new.cache) }
+        ensures fault { IfErr result (LookupFails self.old self.new now (arc_value content.now) (record { kind = kind; key = key.now })) }
     {
         let mut files = DbFiles::new(content.clone()?);
         self.lookup_prepared(alloc, &mut files, answers, kind, key, now)
@@ -259,7 +260,7 @@ impl PlainCache {
         ensures ticked { OnOk result (self.new.ticked ≡ ticked_by self.old.settings self.old.ticked self.new.cache) }
         ensures kept { IfErr result (λ fault. self.new.ticked ≡ ticked_at fault self.old.ticked (ticked_after self.old.settings self.old.ticked (polled (arc_value content.now) self.old.cache))) }
         ensures turn { OnOk result (ComesTo (tick self.old.settings self.old.reloads now (arc_value content.now) self.old.ticked self.old.cache) self.new.cache) }
-        ensures fault { IfErr result (FaultsBy (tick self.old.settings self.old.reloads now (arc_value content.now) self.old.ticked self.old.cache) (arc_value content.now) self.old.cache self.new.cache) }
+        ensures fault { IfErr result (TickFails self.old self.new now (arc_value content.now)) }
     {
         let mut files = DbFiles::new(content.clone()?);
         self.tick_prepared(alloc, &mut files, answers, now)

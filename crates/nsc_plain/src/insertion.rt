@@ -5,6 +5,7 @@ ghost use Rattle.nsc_model.specs.Entry.{key_limit, kept_limit};
 ghost use Rattle.nsc_model.specs.Machine.{made_entry, due_of, reloaded_of};
 ghost use Rattle.std.specs.Prelude.{List, ℕ};
 ghost use Rattle.nsc_model.specs.Answers.{answer_of};
+ghost use Rattle.nsc_propagate.specs.Answered.{OfAnswered};
 ghost use Rattle.nsc_plain.specs.Insertion.{anew, beside};
 
 use crate::db_files::DbFiles;
@@ -100,7 +101,7 @@ pub fn answer_beside<A: Answerer>(
 ) -> Result<Option<Insertion>, NoMemory>
     requires answered { (key : List ℕ) × (answer.now ≡ answer_of files.old.files (record { kind = kind; key = key })) }
     ensures stays { files.new ≡ files.old }
-    ensures beside { (key : List ℕ) → answer.now ≡ answer_of files.old.files (record { kind = kind; key = key }) → IfOk result (λ made. made ≡ beside conf.now files.old.files (record { kind = kind; key = key })) }
+    ensures beside { OfAnswered files.old.files kind answer.now (λ request. IfOk result (λ made. made ≡ beside conf.now files.old.files request)) }
 {
     if !conf.propagate {
         return Ok(None);

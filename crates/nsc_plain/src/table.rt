@@ -7,7 +7,7 @@ ghost use Rattle.std.specs.Option.{is_some};
 ghost use Rattle.nsc_model.specs.Machine.{Cache, due_of, others_of, compacted, compacted_after};
 ghost use Rattle.nsc_model.specs.Events.{ComesTo};
 ghost use Rattle.nsc_model.specs.Faults.{StopsBy};
-ghost use Rattle.nsc_plain.specs.PlainCache.{HitsBy};
+ghost use Rattle.nsc_plain.specs.PlainCache.{HitsIn};
 ghost use Rattle.nsc_plain.specs.EntryList.{StayApart, insertions_for, is_made, entries_for, over, put, put_all, put_with, refused_in};
 
 use crate::entries::{drop_due, find_entry, words_of};
@@ -64,7 +64,7 @@ impl EntryList {
     /// is one. Fails only for want of memory; then nothing changed.
     pub fn hit(&mut self, alloc: Global, kind: Kind, key: &[u8]) -> Result<Option<Bytes>, NoMemory>
         ensures bound { IfOk result (λ hit. IfSome hit (λ reply. length reply ≤ reply_limit)) }
-        ensures hit { IfOk result (λ hit. (cache : Cache) → HitsBy (find (λ k. is_request (record { kind = kind; key = key.now }) k.entry.request) self.old.entries) (record { kind = kind; key = key.now }) (over cache self.old) (over cache self.new) hit) }
+        ensures hit { IfOk result (λ hit. HitsIn (record { kind = kind; key = key.now }) self.old self.new hit) }
         ensures stays { OnErr result (self.new ≡ self.old) }
     {
         let Some(at) = find_entry(&self.entries, kind, key) else {
