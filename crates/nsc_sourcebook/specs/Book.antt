@@ -21,6 +21,10 @@ pub record SourceBook : Type 0 where
   pub newest : Content
   pub held : Option Content
 
+-- a content is the version of this number in a history, and has no other files than those of a database
+abbrev pub IsVersionOf : Db → List Record → ℕ → Content → Type 0
+IsVersionOf db seen version content = (version_in seen version ≡ Some content) × (content ≡ part_of db content)
+
 -- a content that was read, and the number of the version that it was found equal to
 pub record Fetched : Type 0 where
   pub content : Content

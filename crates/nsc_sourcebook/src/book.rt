@@ -8,7 +8,7 @@ ghost use Rattle.nsc_model.specs.History.{PolledSince, version_in};
 ghost use Rattle.nsc_model.specs.Machine.{new_cache, polled};
 ghost use Rattle.nsc_model.specs.Reads.{NoneFell};
 ghost use Rattle.nsc_words.specs.Layout.{IsLayout};
-ghost use Rattle.nsc_writer.specs.Writer.{IsNewest, Polls};
+ghost use Rattle.nsc_writer.specs.Writer.{IsNewest, Polls, new_writer};
 ghost use Rattle.nsc_seats.specs.Tables.{IsChain};
 ghost use Rattle.nsc_sourcebook.specs.Reads.{IsFetched, NoneFailed, NotFetched};
 ghost use Rattle.nsc_sourcebook.specs.Book.{Fetched as Read, FitsBook, PollsBook};
@@ -93,17 +93,14 @@ pub struct SourceBook<F: FileSet + Drop, A: Answerer> {
 }
 
 impl<F: FileSet + Drop, A: Answerer> Model for SourceBook<F, A> {
-    ghost use Rattle.std.specs.Prelude.{◌≡◌, Some};
     ghost use Rattle.std.specs.Arc.{arc_value};
-    ghost use Rattle.nsc_model.specs.Files.{part_of};
-    ghost use Rattle.nsc_model.specs.History.{version_in};
-    ghost use Rattle.nsc_sourcebook.specs.Book.{SourceBook};
+    ghost use Rattle.nsc_sourcebook.specs.Book.{IsVersionOf, SourceBook};
 
     ghost Value = { SourceBook };
 
     ghost view = { λ b. record { db = b.db; table = b.seats.table; present = b.seats.present; seen = b.seats.seen; newest = A.prepared_from (arc_value b.ready); held = F.held b.files } };
 
-    ghost invariant = { λ b. (version_in b.seats.seen b.version ≡ Some (A.prepared_from (arc_value b.ready))) × (A.prepared_from (arc_value b.ready) ≡ part_of b.db (A.prepared_from (arc_value b.ready))) };
+    ghost invariant = { λ b. IsVersionOf b.db b.seats.seen b.version (A.prepared_from (arc_value b.ready)) };
 }
 
 impl<F: FileSet + Drop, A: Answerer> SourceBook<F, A> {
@@ -119,7 +116,7 @@ impl<F: FileSet + Drop, A: Answerer> SourceBook<F, A> {
         requires { IsLayout layout }
         ensures book { IfOk result (λ r. (r.0.db ≡ db) × (r.0.table ≡ r.2.table)) }
         ensures held { IfOk result (λ r. (r.0.held ≡ F.held files.old) × (F.held files.new ≡ F.held files.old)) }
-        ensures writer { IfOk result (λ r. r.1 ≡ record { table = r.2.table; layout = layout; seen = record_of.Change 0 r.0.newest ∷ []; cache = new_cache r.0.newest; hits = record { found = 0; not_found = 0 }; misses = record { found = 0; not_found = 0 }; slide = None }) }
+        ensures writer { IfOk result (λ r. r.1 ≡ new_writer r.2.table layout r.0.newest) }
         ensures seats { IfOk result (λ r. r.2.seen ≡ record_of.Change 0 r.0.newest ∷ []) }
         ensures fetched { IfOk result (λ r. IsFetched F.FileSet db files.old files.new r.0.newest) }
         ensures no_fault { OnOk result (NoneFailed F.FileSet files.old files.new) }
