@@ -1,12 +1,13 @@
 -- A database of a replay.
-use Rattle.std.specs.Prelude.{◌≡◌, ◌⊎◌, ℕ, Option, Result}
+use Rattle.std.specs.Prelude.{◌≡◌, ◌⊎◌, ℕ, List, Option, Result}
+use Rattle.nsc_model.specs.declared.answer.Request.{Request}
 use Rattle.nsc_model.specs.declared.conf.DbConf.{DbConf}
 use Rattle.nsc_model.specs.declared.fault.CacheFault.{CacheFault}
 use Rattle.nsc_model.specs.declared.fault.CacheFault.TheVariants as faults
 use Rattle.nsc_model.specs.Content.{Content}
 use Rattle.nsc_model.specs.History.{PolledSince}
-use Rattle.nsc_model.specs.Machine.{Passed, Stopped, polled}
-use Rattle.nsc_turns.specs.Turns.{Completes, Stops}
+use Rattle.nsc_model.specs.Machine.{Passed, Stopped, Turn, lookup, polled}
+use Rattle.nsc_turns.specs.Turns.{Completes, CompletesWith, Stops}
 use Rattle.nsc_writer.specs.declared.loaded.Stamp.{Stamp}
 use Rattle.nsc_writer.specs.Writer.{Writer}
 
@@ -44,7 +45,15 @@ abbrev pub OnlyStops : Result Passed Stopped → Writer → Writer → CacheFaul
 OnlyStops event before after faults.NoMemory = ⊥
 OnlyStops event before after (faults.Spent count) = Stops event count before after
 
--- the version that a tick keeps which gave up: where memory was short, that of the last tick
+-- the event of a lookup at this moment
+abbrev pub looked_up : Cached → ℕ → Request → Result Turn Stopped
+looked_up c now request = lookup c.settings now c.files request c.writer.cache
+
+-- a lookup, whatever the moment, has this reply and leaves this writer
+abbrev pub LooksUp : Request → Cached → Writer → List ℕ → Type 0
+LooksUp request before after reply = (now : ℕ) → CompletesWith (looked_up before now request) before.writer after reply
+
+-- the version that a tick keeps which gave up: where memory was wanting, that of the last tick
 abbrev pub ticked_at : CacheFault → ℕ → ℕ → ℕ
 ticked_at faults.NoMemory ticked kept = ticked
 ticked_at (faults.Spent count) ticked kept = kept

@@ -1,5 +1,4 @@
-// `Cached`: one database of a replay, with its lookups, ticks and invalidations.
-ghost use Rattle.std.specs.Prelude.{◌≡◌, ℕ, ◌≤◌, ◌<◌, ◌^◌, [], ◌∷◌, None, Ok, length, map, unwrap_or, option_map, IfNone, IfSome, IfOk, IfErr, OnErr, OnOk};
+ghost use Rattle.std.specs.Prelude.{◌≡◌, ◌≤◌, ◌<◌, ◌^◌, [], ◌∷◌, None, Ok, length, map, unwrap_or, option_map, IfNone, IfSome, IfOk, IfErr, OnErr, OnOk};
 ghost use Rattle.std.specs.Arc.{arc_value};
 ghost use Rattle.nsc_model.specs.Files.{no_files};
 ghost use Rattle.nsc_model.specs.Entry.{key_limit};
@@ -10,7 +9,7 @@ ghost use Rattle.nsc_model.specs.Sizes.{SizeFits};
 ghost use Rattle.nsc_pruner.specs.Due.{due_from};
 ghost use Rattle.nsc_turns.specs.Loads.{beside_of, loaded_of};
 ghost use Rattle.nsc_turns.specs.Turns.{Completes, CompletesWith};
-ghost use Rattle.nsc_replay.specs.Cached.{Faults, GivesUp, IsFresh, OnlyStops, ticked_at};
+ghost use Rattle.nsc_replay.specs.Cached.{Faults, GivesUp, IsFresh, LooksUp, OnlyStops, looked_up, ticked_at};
 
 use crate::prepared::Prepared;
 use nsc_base::{Buf, Bytes, NoMemory};
@@ -105,8 +104,8 @@ impl<A: Answerer> Cached<A> {
         requires moment { now < 2 ^ 62 }
         ensures rest { self.new ≡ record self.old { writer = self.new.writer } }
         ensures bound { IfOk result (λ reply. length reply ≤ reply_limit) }
-        ensures turn { IfOk result (CompletesWith (lookup self.old.settings now self.old.files (record { kind = kind; key = key.now }) self.old.writer.cache) self.old.writer self.new.writer) }
-        ensures fault { IfErr result (Faults (lookup self.old.settings now self.old.files (record { kind = kind; key = key.now }) self.old.writer.cache) self.old.files self.old.writer self.new.writer) }
+        ensures turn { IfOk result (CompletesWith (looked_up self.old now (record { kind = kind; key = key.now })) self.old.writer self.new.writer) }
+        ensures fault { IfErr result (Faults (looked_up self.old now (record { kind = kind; key = key.now })) self.old.files self.old.writer self.new.writer) }
     {
         if let Some(reply) = self.hit(alloc, kind, key)? {
             return Ok(reply);
@@ -131,7 +130,7 @@ impl<A: Answerer> Cached<A> {
     fn hit(&mut self, alloc: Global, kind: Kind, key: &[u8]) -> Result<Option<Bytes>, NoMemory>
         ensures rest { self.new ≡ record self.old { writer = self.new.writer } }
         ensures bound { IfOk result (λ hit. IfSome hit (λ reply. length reply ≤ reply_limit)) }
-        ensures hit { IfOk result (λ hit. IfSome hit (λ reply. (now : ℕ) → CompletesWith (lookup self.old.settings now self.old.files (record { kind = kind; key = key.now }) self.old.writer.cache) self.old.writer self.new.writer reply)) }
+        ensures hit { IfOk result (λ hit. IfSome hit (LooksUp (record { kind = kind; key = key.now }) self.old self.new.writer)) }
         ensures none { IfOk result (λ hit. IfNone hit (cached self.old.settings (record { kind = kind; key = key.now }) self.old.writer.cache ≡ None)) }
         ensures same { IfOk result (λ hit. IfNone hit (self.new ≡ self.old)) }
         ensures unused { OnErr result (self.new ≡ self.old) }
