@@ -67,6 +67,17 @@ fn changed(alloc: Global, front: &[u8], place: usize, byte: u8) -> Result<Vec<u8
     Ok(image)
 }
 
+// The fault, if there is one, of an image of passwd with this front and another byte at a place.
+fn fault_in(
+    alloc: Global,
+    front: &[u8],
+    place: usize,
+    byte: u8,
+) -> Result<Option<ImageFault>, NoMemory> {
+    let image = changed(alloc, front, place, byte)?;
+    Ok(verify(image.as_slice(), Db::Passwd).err())
+}
+
 #[test]
 fn places_of_faults(rt: HostRuntime) -> Result<(), Fail> {
     // The place and the byte that is written there, and the place that is told, in version 2 and in version 3.
@@ -83,14 +94,12 @@ fn places_of_faults(rt: HostRuntime) -> Result<(), Fail> {
         (16, 0, 20, 20),
     ];
     for (place, byte, in_2, in_3) in table {
-        let image = changed(rt.alloc(), &IMAGE_2[..120], place, byte)?;
-        let fault = verify(image.as_slice(), Db::Passwd).err();
+        let fault = fault_in(rt.alloc(), &IMAGE_2[..120], place, byte)?;
         assert!(rt;
             fault == Some(ImageFault::Layout { at: in_2 }),
             "byte {byte} at {place} of version 2"
         );
-        let image = changed(rt.alloc(), &IMAGE_3[..124], place, byte)?;
-        let fault = verify(image.as_slice(), Db::Passwd).err();
+        let fault = fault_in(rt.alloc(), &IMAGE_3[..124], place, byte)?;
         assert!(rt;
             fault == Some(ImageFault::Layout { at: in_3 }),
             "byte {byte} at {place} of version 3"
@@ -101,11 +110,9 @@ fn places_of_faults(rt: HostRuntime) -> Result<(), Fail> {
 
 #[test]
 fn timeout_that_is_too_great(rt: HostRuntime) -> Result<(), Fail> {
-    let image = changed(rt.alloc(), &IMAGE_2[..120], 51, 128)?;
-    let fault = verify(image.as_slice(), Db::Passwd).err();
+    let fault = fault_in(rt.alloc(), &IMAGE_2[..120], 51, 128)?;
     assert!(rt; fault == Some(ImageFault::Layout { at: 44 }));
-    let image = changed(rt.alloc(), &IMAGE_3[..124], 55, 128)?;
-    let fault = verify(image.as_slice(), Db::Passwd).err();
+    let fault = fault_in(rt.alloc(), &IMAGE_3[..124], 55, 128)?;
     assert!(rt; fault == Some(ImageFault::Layout { at: 48 }));
     // The highest byte of the count of reloads, which is at that place in version 3.
     let image = changed(rt.alloc(), &IMAGE_3[..124], 47, 128)?;
@@ -121,12 +128,10 @@ fn timeout_that_is_too_great(rt: HostRuntime) -> Result<(), Fail> {
 #[test]
 fn fields_of_the_other_version(rt: HostRuntime) -> Result<(), Fail> {
     // Four bytes are left behind an entry of version 3 that is read as one of version 2.
-    let image = changed(rt.alloc(), &IMAGE_3[..124], 8, 2)?;
-    let fault = verify(image.as_slice(), Db::Passwd).err();
+    let fault = fault_in(rt.alloc(), &IMAGE_3[..124], 8, 2)?;
     assert!(rt; fault == Some(ImageFault::Layout { at: 120 }));
     // Four bytes are missing of an entry of version 2 that is read as one of version 3.
-    let image = changed(rt.alloc(), &IMAGE_2[..120], 8, 3)?;
-    let fault = verify(image.as_slice(), Db::Passwd).err();
+    let fault = fault_in(rt.alloc(), &IMAGE_2[..120], 8, 3)?;
     assert!(rt; fault == Some(ImageFault::Layout { at: 20 }));
     Ok(())
 }
@@ -149,11 +154,9 @@ fn number_that_does_not_rise(rt: HostRuntime) -> Result<(), Fail> {
 fn other_faults(rt: HostRuntime) -> Result<(), Fail> {
     let not_image = Some(ImageFault::NotImage);
     assert!(rt; verify(&IMAGE_2[..51], Db::Passwd).err() == not_image);
-    let image = changed(rt.alloc(), &IMAGE_2[..120], 0, b'n')?;
-    assert!(rt; verify(image.as_slice(), Db::Passwd).err() == not_image);
+    assert!(rt; fault_in(rt.alloc(), &IMAGE_2[..120], 0, b'n')? == not_image);
     for version in [0, 1, 4, 9] {
-        let image = changed(rt.alloc(), &IMAGE_3[..124], 8, version)?;
-        let fault = verify(image.as_slice(), Db::Passwd).err();
+        let fault = fault_in(rt.alloc(), &IMAGE_3[..124], 8, version)?;
         assert!(rt;
             fault == Some(ImageFault::ImageVersion(u32::from(version))),
             "version {version}"
