@@ -34,4 +34,5 @@ pub mod Steady
 pub mod Growth
 pub mod Image
 pub mod Stores
+pub mod Made
 pub mod Exits

@@ -237,11 +237,14 @@ IsTickFault other settings now seen after last_cycle before_faults after_faults 
 
 -- ---- a caller's pass at two moments
 
--- What a pass is at a moment: what it has seen; the counts of its reads that failed, in all and of each file; how often it read each file,
--- and what the latest read gave, if that is told; how often it has begun a search in place; the CYCLE that its latest search loaded first,
--- and the one that it loaded last; and how many words its table has.
+-- What a pass is at a moment:
+-- the history that the pass has seen, and the records that the calls through the pass added to the history, both newest first;
+-- the counts of its reads that failed, in all and of each file; how often it read each file, and what the latest read gave, if that is told;
+-- how often it has begun a search in place; the CYCLE that its latest search loaded first, and the one that it loaded last;
+-- and the number of words of its table.
 pub record PassAt : Type 0 where
   pub seen : List Record
+  pub made : List Record
   pub faults : ℕ
   pub file_faults : FileId → ℕ
   pub reads : FileId → ℕ

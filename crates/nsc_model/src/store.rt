@@ -1,5 +1,5 @@
 // `Store`: the trait of one database for many threads; its results, faults and statistics.
-ghost use Rattle.std.specs.Prelude.{◌≡◌, ◌⊎◌, ◌+◌, ◌<◌, ◌^◌, ◌≤◌, ℕ, List, Option, IsOk, length, IfOk, IfErr, OnOk};
+ghost use Rattle.std.specs.Prelude.{◌≡◌, ◌⊎◌, ◌+◌, ◌++◌, ◌<◌, ◌^◌, ◌≤◌, ℕ, List, Option, IsOk, length, IfOk, IfErr, OnOk, []};
 ghost use Rattle.std.specs.Bool.{OnFalse, OnTrue};
 ghost use Rattle.nsc_model.specs.declared.kind.Db.{Db};
 ghost use Rattle.nsc_model.specs.declared.answer.Request.{Request};
@@ -8,6 +8,7 @@ ghost use Rattle.nsc_model.specs.Content.{Content};
 ghost use Rattle.nsc_model.specs.Entry.{key_limit, kept_limit};
 ghost use Rattle.nsc_model.specs.InPlace.{InPlaceClause};
 ghost use Rattle.nsc_model.specs.Kinds.{database_of};
+ghost use Rattle.nsc_model.specs.Made.{Adds, AddsByLookup, AddsByRefusedInvalidation, AddsByRefusedLookup, AddsByRefusedTick, AddsNothing, IsInvalidation};
 ghost use Rattle.nsc_model.specs.History.{IsPrefix, Legal};
 ghost use Rattle.nsc_model.specs.Steady.{IsSteady};
 ghost use Rattle.nsc_model.specs.Stores.{Continues, GivesAnswerAt, GivesUpAt, IsCounted, IsEmptied, IsImageOf, IsInvalidateFault, IsOfFilesAt, IsTickedAt, IsTickFaultAt, LoadedLastCycle, PassAt, StaysCalm};
@@ -196,11 +197,17 @@ pub trait Store {
     fn attach<R: Wait>(&self, rt: &R, alloc: Global) -> Result<Self::Pass, NoMemory>
         ensures pass { IfOk result (λ pass. is_pass self.now pass) }
         ensures legal { IfOk result (λ pass. Legal (at pass).seen) }
+        ensures made { IfOk result (λ pass. (at pass).made ≡ []) }
         ensures steady { IfOk result (λ pass. IsSteady (held self.now) (db self.now) (at pass).seen) };
 
     /// Looks up the request of this kind and key at this moment, in seconds. The reply is that of its live entry, or else the answer over
     /// the files as they are read in this call, which is then kept if nothing refuses it. With `auto-propagate` (nscd.conf(5)) a lookup
     /// by name that is kept has the request by id kept too, with the answer to it.
+    ///
+    /// # Errors
+    ///
+    /// No entry was inserted and none ended. At `NoMemory` a look at the files may have been entered, and the table may have grown. At the
+    /// others the history is as it was.
     fn lookup<R: Wait>(
         &self,
         rt: &R,
@@ -221,6 +228,8 @@ pub trait Store {
         ensures answer { IfOk result (GivesAnswerAt (settings self.now) now (at pass.old) (at pass.new) (record { kind = kind; key = key.now })) }
         ensures files { IfOk result (IsOfFilesAt (db self.now) (held self.now) (at pass.old) (at pass.new) (record { kind = kind; key = key.now })) }
         ensures fault { IfErr result (GivesUpAt (settings self.now) (at pass.old) (at pass.new) (record { kind = kind; key = key.now })) }
+        ensures made { IfOk result (AddsByLookup (settings self.now) (record { kind = kind; key = key.now }) (at pass.old) (at pass.new)) }
+        ensures refused { IfErr result (AddsByRefusedLookup (at pass.old) (at pass.new)) }
         ensures no_fault { OnOk result (StaysCalm (at pass.old) (at pass.new)) };
 
     /// Does what is due at this moment, in seconds, if the database is cached. The files are looked at. If they changed since the last
@@ -247,9 +256,15 @@ pub trait Store {
         ensures ticked { OnOk result (OnTrue (settings self.now).enabled (IsTickedAt (db self.now) (settings self.now) (brought self.now) (reloads self.now) now (at pass.old) (at pass.new))) }
         ensures uncached { OnFalse (settings self.now).enabled (IsOk result × (pass.new ≡ pass.old)) }
         ensures fault { IfErr result (IsTickFaultAt (settings self.now) now (at pass.old) (at pass.new)) }
+        ensures refused { IfErr result (AddsByRefusedTick (at pass.old) (at pass.new)) }
         ensures no_fault { OnOk result (StaysCalm (at pass.old) (at pass.new)) };
 
     /// Ends every live entry as invalidated, and gives the new number of invalidations.
+    ///
+    /// # Errors
+    ///
+    /// At `NoMemory` and at `Spent` of the invalidations no entry was ended. At `Spent` of the compactions every entry was ended, and the
+    /// invalidation is counted.
     fn invalidate<R: Wait>(&self, rt: &R, pass: &mut Self::Pass) -> Result<u64, CacheFault>
         requires { is_pass self.now pass.old }
         ensures pass { is_pass self.now pass.new }
@@ -258,6 +273,8 @@ pub trait Store {
         ensures searches { (at pass.old).searches ≤ (at pass.new).searches }
         ensures done { IfOk result (λ epoch. IsEmptied (at pass.old).seen (at pass.new).seen epoch) }
         ensures fault { IfErr result (λ fault. IsInvalidateFault fault (at pass.new).seen (LoadedLastCycle (at pass.old) (at pass.new))) }
+        ensures made { IfOk result (λ epoch. Adds (IsInvalidation epoch) (at pass.old) (at pass.new)) }
+        ensures refused { IfErr result (AddsByRefusedInvalidation (at pass.old) (at pass.new)) }
         ensures no_fault { StaysCalm (at pass.old) (at pass.new) };
 
     /// Searches for the live entry of the request of this kind and key while others go on, and puts its reply into the buffer of 65,536
@@ -273,6 +290,7 @@ pub trait Store {
         ensures seen { Continues (at pass.old).seen (at pass.new).seen }
         ensures searches { (at pass.new).searches ≡ (at pass.old).searches + 1 }
         ensures answer { InPlaceClause (at pass.old).seen (at pass.new).seen (record { kind = kind; key = key.now }) (at pass.new).first (at pass.new).last out.new.content result }
+        ensures made { AddsNothing (at pass.old) (at pass.new) }
         ensures no_fault { StaysCalm (at pass.old) (at pass.new) };
 
     /// Searches as `in_place` does, and says whether the entry that answers was loaded again since it was used last.
@@ -286,6 +304,7 @@ pub trait Store {
         ensures seen { Continues (at pass.old).seen (at pass.new).seen }
         ensures searches { (at pass.new).searches ≡ (at pass.old).searches + 1 }
         ensures answer { InPlaceClause (at pass.old).seen (at pass.new).seen (record { kind = kind; key = key.now }) (at pass.new).first (at pass.new).last out.new.content result.answer }
+        ensures made { AddsNothing (at pass.old) (at pass.new) }
         ensures no_fault { StaysCalm (at pass.old) (at pass.new) };
 
     /// Goes on to the table that is written, if the writer's lock is free, so that searches in place find its entries. It adds no record.
@@ -296,6 +315,7 @@ pub trait Store {
         ensures seen { (pass.new ≡ pass.old) ⊎ Continues (at pass.old).seen (at pass.new).seen }
         ensures followed { OnTrue result (IsSteady (held self.now) (db self.now) (at pass.new).seen) }
         ensures searches { (at pass.old).searches ≤ (at pass.new).searches }
+        ensures made { AddsNothing (at pass.old) (at pass.new) }
         ensures no_fault { StaysCalm (at pass.old) (at pass.new) };
 
     /// Counts lookups that live entries answered in place: of found and of not-found replies. Each number stays at 2^62. It takes no
@@ -311,6 +331,7 @@ pub trait Store {
         ensures searches { (at pass.old).searches ≤ (at pass.new).searches }
         ensures counted { IfOk result (λ stats. IsCounted (settings self.now) (at pass.new).words (at pass.new).seen stats) }
         ensures enabled { IfOk result (λ stats. stats.enabled ≡ (settings self.now).enabled) }
+        ensures made { AddsNothing (at pass.old) (at pass.new) }
         ensures no_fault { StaysCalm (at pass.old) (at pass.new) };
 
     /// The image of the live entries, in the order of their numbers. Fails only for want of memory.
@@ -321,6 +342,7 @@ pub trait Store {
         ensures steady { IsSteady (held self.now) (db self.now) (at pass.new).seen }
         ensures searches { (at pass.old).searches ≤ (at pass.new).searches }
         ensures image { IfOk result (IsImageOf (db self.now) (at pass.new).seen) }
+        ensures made { AddsNothing (at pass.old) (at pass.new) }
         ensures no_fault { StaysCalm (at pass.old) (at pass.new) };
 
     /// The pass has seen, then, all that it and the other one had seen.
@@ -331,5 +353,6 @@ pub trait Store {
         ensures seen { Continues (at pass.old).seen (at pass.new).seen }
         ensures searches { (at pass.old).searches ≤ (at pass.new).searches }
         ensures other { IsPrefix (at other).seen (at pass.new).seen }
+        ensures made { (at pass.new).made ≡ (at other).made ++ (at pass.old).made }
         ensures no_fault { StaysCalm (at pass.old) (at pass.new) };
 }
