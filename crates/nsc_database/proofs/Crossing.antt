@@ -20,7 +20,7 @@ use Rattle.nsc_database.specs.contracts.room.OfHostsOfDb.TheImpl as of_hosts
 use Rattle.nsc_database.specs.contracts.room.OfServices as services
 use Rattle.nsc_database.specs.contracts.room.OfServicesOfDb.TheImpl as of_services
 use Rattle.nsc_database.specs.contracts.desk.Desk as desk
-use Rattle.nsc_database.specs.contracts.desk.Shelved as shelved
+use Rattle.nsc_database.specs.contracts.shelved.Shelved as shelved
 use Rattle.nsc_database.specs.contracts.base.Base as base
 use Rattle.nsc_database.specs.contracts.database.Bases as bases
 use Rattle.nsc_database.specs.contracts.database.Database as database

@@ -1,5 +1,8 @@
 pub mod Shown
 pub mod Lookups
+pub mod Gained
+pub mod Checked
+pub mod Added
 pub mod Rests
 pub mod Steady
 pub mod Standing
@@ -13,6 +16,5 @@ pub mod Ticked
 pub mod Crossing
 pub mod Again
 pub mod Reloading
-pub mod Checked
 pub mod Grown
 pub mod Beside

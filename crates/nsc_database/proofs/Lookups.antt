@@ -1,9 +1,11 @@
 -- What lookups come to, hold after hold.
-use Rattle.std.proofs.Common.{◌≡◌, ◌∙◌, ℕ, ◌+◌, ◌≤◌, true, List, [], refl, sym, ap, subst, arith, inl, inr}
+use Rattle.std.proofs.Common.{◌≡◌, ◌∙◌, ℕ, ◌+◌, ◌≤◌, true, List, [], refl, sym, ap, subst, arith, inl, inr, Option}
 use Rattle.std.proofs.lemmas.Bool.{OnFalse_from, false≢true}
 use Rattle.nsc_model.specs.declared.answer.Request.{Request}
 use Rattle.nsc_model.specs.declared.record.Record.{Record}
 use Rattle.nsc_model.specs.declared.conf.DbConf.{DbConf}
+use Rattle.nsc_model.specs.declared.kind.Db.{Db}
+use Rattle.nsc_model.specs.declared.kind.FileId.{FileId}
 use Rattle.nsc_model.specs.declared.store.Given.{Given}
 use Rattle.nsc_model.specs.declared.store.Given.TheVariants as given
 use Rattle.nsc_model.specs.declared.store.LookupFault.{LookupFault}
@@ -13,7 +15,9 @@ use Rattle.nsc_model.specs.declared.store.Why.TheVariants as why
 use Rattle.nsc_model.specs.Entry.{Entry}
 use Rattle.nsc_model.specs.Answers.{answer_of}
 use Rattle.nsc_model.specs.History.{Answered, EndedAfter, HasLoad, IsPrefix, Legal, NoneLiveOf, PolledSince, invalidations, loads}
+use Rattle.nsc_model.specs.Content.{Content}
 use Rattle.nsc_model.specs.Machine.{life_of}
+use Rattle.nsc_model.specs.Reads.{IsLookedUp, IsMade}
 use Rattle.nsc_model.specs.Stores.{GivesAnswer, IsGiven, IsHit, IsMissed, IsMissedAt, IsWhy, reply_of}
 use Rattle.nsc_laws.proofs.Prefixes.{load_below}
 use Rattle.nsc_writer.specs.declared.loaded.Inserted.{Inserted}
@@ -196,3 +200,17 @@ kept_reply settings words last_cycle l seen after g k = ap reply_of k.gives ∙ 
 -- by a call that began earlier
 pub tried_to : (settings : DbConf) (words : ℕ) (lesser last_cycle : Type 0) (l : Loaded) (seen after : List Record) (g : Given) → (lesser → last_cycle) → IsTried settings words lesser l seen after g → IsTried settings words last_cycle l seen after g
 tried_to settings words lesser last_cycle l seen after g to k = record { said = k.said; inserted = inserted_since settings words lesser last_cycle k.said l seen seen after ([], refl) to k.inserted; gives = k.gives }
+
+-- ---- what was read
+
+-- an answer that was made anew, over files that were looked at
+pub made_anew : (which : Db) (said : Inserted) (bytes : List ℕ) (g : Given) (before_reads after_reads : FileId → ℕ) (latest : FileId → Option (Option (List ℕ))) (request : Request) (content : Content) → g ≡ given_by said bytes → IsLookedUp which before_reads after_reads latest content → (answer_of content request).bytes ≡ bytes
+    → IsMade which before_reads after_reads latest request g
+made_anew which said bytes g before_reads after_reads latest request content gives looked same = subst (IsMade which before_reads after_reads latest request) (sym gives) (by_said said) where
+  by_said : (s : Inserted) → IsMade which before_reads after_reads latest request (given_by s bytes)
+  by_said (inserted.Done number) = (content, looked, same)
+  by_said (inserted.TooLarge size) = (content, looked, same)
+  by_said (inserted.Discarded noted epoch) = (content, looked, same)
+  by_said (inserted.Present number) = (content, looked, same)
+  by_said (inserted.Spent count) = (content, looked, same)
+  by_said (inserted.Full need free) = (content, looked, same)

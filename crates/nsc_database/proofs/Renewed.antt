@@ -3,7 +3,7 @@ use Rattle.std.proofs.Common.{◌≡◌, ◌∙◌, ℕ, ◌+◌, ◌≤◌, Boo
 use Rattle.std.proofs.Math.Nat.{min-le_left}
 use Rattle.std.proofs.lemmas.List.{length-map}
 use Rattle.std.specs.Bool.{OnFalse, OnTrue}
-use Rattle.std.specs.Prelude.{IfErr, IfSome, OnOk}
+use Rattle.std.specs.Prelude.{IfErr, IfSome, OnErr, OnOk, ◌++◌}
 use Rattle.nsc_model.specs.declared.store.Spent.{Spent}
 use Rattle.std.proofs.lemmas.Bool.{false≢true}
 use Rattle.nsc_model.specs.declared.conf.DbConf.{DbConf}
@@ -32,15 +32,17 @@ use Rattle.nsc_turns.specs.Ticks.{Reloads, ReloadsOne, Renews, compacted_for, en
 use Rattle.nsc_turns.specs.Turns.{Completes, Stops}
 use Rattle.nsc_turns.proofs.Machines.{all_answered}
 use Rattle.nsc_turns.proofs.Renewed.{answered_on, leaves_inserted, leaves_pruned, spends}
-use Rattle.nsc_writer.proofs.Later.{end_on, polled_on, version_on}
+use Rattle.nsc_writer.proofs.Later.{end_on, polled_on, prefix_through, version_on}
 use Rattle.nsc_growth.specs.Sized.{IsSized}
 use Rattle.nsc_growth.proofs.Sized.{sized_low}
+use Rattle.nsc_database.specs.Made.{EndsAlone}
 use Rattle.nsc_database.specs.Rests.{InsertsOwn, IsAtRest, IsLoadedOf, IsPacked, Keeps, LoadsAgain, Rests}
 use Rattle.nsc_database.specs.Steady.{KeepsVersion}
 use Rattle.nsc_database.specs.Ticks.{AreAnew, AreOver, EndsInTime, HasNumber, IsDue, IsPending, IsRenewed, LoadsBut, compacted_by}
 use Rattle.nsc_database.proofs.Again.{but_later, none_but}
 use Rattle.nsc_database.proofs.Invalidations.{is_unmoved}
 use Rattle.nsc_database.proofs.Ended.{keeps_compacted, packed_compacted, packed_spent}
+use Rattle.nsc_database.proofs.Gained.{none_pruned}
 use Rattle.nsc_laws.proofs.Reloads.{replaced_on}
 use Rattle.nsc_database.proofs.Pruning.{all_cons, all_count, all_leave}
 use Rattle.nsc_database.proofs.Reloading.{pend_inserted, pend_past, pends}
@@ -238,6 +240,9 @@ pub record Renewal (settings : DbConf) (brought : Request → ℕ) (limit : Opti
   pub layout : w'.layout ≡ w.layout
   pub over : OnOk r (AreOver epoch w'.seen due)
   pub spent : IfErr r (λ s. IsUnmoved w'.seen (last_count ≤ w'.cache.cycle) s.count (AreOver epoch w'.seen due))
+  pub added : List Record
+  pub gains : w'.seen ≡ added ++ w.seen
+  pub alone : OnErr r (EndsAlone w' added)
 
 pub renewal : {settings : DbConf} {brought : Request → ℕ} {limit : Option ℕ} {held : Option Content} {which : Db} {ticked : ℕ} (left : List Former) (now epoch : ℕ) (due : List Due) (loads : List (Option Loaded)) (w w' : Writer) (r : Result (Unit {0}) Spent) → All (IsDue brought limit now w.seen) due → AreAnew w.seen epoch due loads → w.cache.epoch ≡ epoch
     → Tells w.seen w.cache → OnOk r (Renews now due loads w w') → IfErr r (λ s. Stops (compacted_for (ended_of (marked_by now due w)) (pruned_by now due w).cache) s.count (pruned_by now due w) w') → IsAtRest settings brought limit held which ticked left w → Renewal settings brought limit held which ticked left epoch due w w' r
@@ -250,6 +255,9 @@ renewal {settings} {brought} {limit} {held} {which} {ticked} left now epoch due 
       layout = l.0.layout ∙ s.layout;
       over = inr (λ n has. end_on r.0.seen w'.seen n l.0.on (s.gone n has));
       spent = tt;
+      added = (prefix_through w.seen r.0.seen w'.seen s.on l.0.on).0;
+      gains = (prefix_through w.seen r.0.seen w'.seen s.on l.0.on).1;
+      alone = tt;
     }
 renewal {settings} {brought} {limit} {held} {which} {ticked} left now epoch due loads w w' (Err spent) all anew same t r stops rest =
     let e = spends (ended_of (marked_by now due w)) spent.count (pruned_by now due w) w' stops in
@@ -260,4 +268,7 @@ renewal {settings} {brought} {limit} {held} {which} {ticked} left now epoch due 
       layout = s.layout;
       over = tt;
       spent = is_unmoved w' spent.count (AreOver epoch w'.seen due) e.high e.at (inr s.gone);
+      added = s.on.0;
+      gains = s.on.1;
+      alone = (e.high, none_pruned now due w w' e.same s.on);
     }

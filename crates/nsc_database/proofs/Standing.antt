@@ -6,6 +6,7 @@ use Rattle.nsc_model.specs.declared.answer.Request.{Request}
 use Rattle.nsc_model.specs.declared.conf.DbConf.{DbConf}
 use Rattle.nsc_model.specs.declared.kind.Db.{Db}
 use Rattle.nsc_model.specs.Content.{Content}
+use Rattle.nsc_model.specs.History.{IsPrefix}
 use Rattle.nsc_model.specs.Machine.{is_outdated, room_of}
 use Rattle.nsc_model.specs.Stores.{AreLoadedAgain}
 use Rattle.nsc_model.specs.declared.store.Spent.{Spent as SpentCount}
@@ -14,6 +15,7 @@ use Rattle.nsc_writer.specs.Writer.{Writer}
 use Rattle.nsc_sourcebook.specs.Book.{Fetched, Polled, PollsBook, SourceBook}
 use Rattle.nsc_writer.proofs.Later.{prefix_through}
 use Rattle.nsc_growth.specs.Sized.{IsSized}
+use Rattle.nsc_seats.specs.Seats.{Seats}
 use Rattle.nsc_database.specs.declared.pass.DbPass.{DbPass}
 use Rattle.nsc_database.specs.declared.room.Room as room
 use Rattle.nsc_database.specs.Frames.{Goes, Held, LoadedLastCycle}
@@ -62,6 +64,17 @@ in_any_case (Err e) p = tt
 -- one hold after the other
 pub held_through : {F B : Type 0} {G : file_set.Ghosts F} {R : room.Ghosts B} (a b c : DbPass F B G R) → Held a b → Held b c → Held a c
 held_through a b c h i = record { db = i.db ∙ h.db; files = i.files ∙ h.files; before = prefix_through a.pass.seen b.pass.seen c.pass.seen h.before i.before; legal = i.legal; fit = i.fit; searches = let low = h.searches in let more = i.searches in omega arith }
+
+-- one behind a call that changed nothing of the pass but the records that it made
+pub held_past : {F B : Type 0} {G : file_set.Ghosts F} {R : room.Ghosts B} (a b b' c : DbPass F B G R) → b'.db ≡ b.db → b'.files ≡ b.files → b'.pass ≡ b.pass → Held a b → Held b' c → Held a c
+held_past a b b' c db files pass h i = held_through a b c h (record {
+  db = i.db ∙ db;
+  files = i.files ∙ files;
+  before = subst (λ (s : Seats). IsPrefix s.seen c.pass.seen) pass i.before;
+  legal = i.legal;
+  fit = i.fit;
+  searches = subst (λ (s : Seats). s.searching.searches ≤ c.pass.searching.searches) pass i.searches;
+})
 
 pub goes_after : {F B : Type 0} {G : file_set.Ghosts F} {R : room.Ghosts B} (a b c : DbPass F B G R) → Held a b → Goes b c → Goes a c
 goes_after a b c h i = record { db = i.db ∙ h.db; before = prefix_through a.pass.seen b.pass.seen c.pass.seen h.before i.before; legal = i.legal; fit = i.fit; searches = let low = h.searches in let more = i.searches in omega arith }

@@ -31,6 +31,7 @@ LoadedLastCycle p p' = FoundLastCycle p.pass.searching.searches p'.pass.searchin
 abbrev pub pass_at : {F B : Type 0} {G : file_set.Ghosts F} {R : room.Ghosts B} → DbPass F B G R → PassAt
 pass_at {F} {B} {G} {R} p = record {
   seen = p.pass.seen;
+  made = p.made;
   faults = G.faults p.files;
   file_faults = G.file_faults p.files;
   reads = G.reads p.files;

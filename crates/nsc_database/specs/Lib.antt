@@ -4,6 +4,7 @@ pub mod Steady
 pub mod Rests
 pub mod Openings
 pub mod Frames
+pub mod Made
 pub mod Holds
 pub mod Growing
 pub mod Ticks

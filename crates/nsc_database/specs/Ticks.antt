@@ -2,6 +2,8 @@
 use Rattle.std.specs.Prelude.{◌≡◌, ℕ, ◌+◌, ◌<◌, ◌≤◌, ◌⊎◌, ◌^◌, Bool, true, false, All, List, [], ◌∷◌, map, Option, Some}
 use Rattle.std.specs.Bool.{OnTrue}
 use Rattle.nsc_model.specs.declared.conf.DbConf.{DbConf}
+use Rattle.nsc_model.specs.declared.fault.CacheFault.{CacheFault}
+use Rattle.nsc_model.specs.declared.fault.CacheFault.TheVariants as cache_fault
 use Rattle.nsc_model.specs.declared.answer.Request.{Request}
 use Rattle.nsc_model.specs.declared.record.Ending.TheVariants.{Replaced}
 use Rattle.nsc_model.specs.declared.record.Record.{Record}
@@ -60,6 +62,11 @@ IsChecked (checked.Listed due) settings brought limit now history = AreListed se
 abbrev pub EmptiesOutdated : Checked → Bool → Type 0
 EmptiesOutdated checked.Emptied outdated = outdated ≡ true
 EmptiesOutdated (checked.Listed due) outdated = outdated ≡ false
+
+-- why a call of a cache gave up, as a lookup says it
+abbrev pub fault_from : CacheFault → LookupFault
+fault_from cache_fault.NoMemory = fault.NoMemory
+fault_from (cache_fault.Spent count) = fault.Spent count
 
 -- why a hold gave up: memory was short, or a count stands at its end, and the ends were made all the same
 abbrev pub IsHoldFault : LookupFault → List Record → Type 0 → Type 0 → Type 0

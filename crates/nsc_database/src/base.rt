@@ -1,24 +1,28 @@
 // A database of which it is known which one it is.
-ghost use Rattle.std.specs.Prelude.{◌≡◌, ◌≤◌, ◌<◌, ◌^◌, length, IfOk, IfErr, IfSome, OnOk};
+ghost use Rattle.std.specs.Prelude.{◌≡◌, ◌≤◌, ◌<◌, ◌^◌, [], length, IfOk, IfErr, IfSome, OnErr, OnOk};
 ghost use Rattle.nsc_model.specs.Entry.{key_limit};
 ghost use Rattle.nsc_model.specs.History.{Legal, invalidations};
 ghost use Rattle.nsc_model.specs.Reads.{IsLookedUp};
 ghost use Rattle.nsc_model.specs.Settings.{settings_of};
 ghost use Rattle.nsc_model.specs.Kinds.{database_of};
+ghost use Rattle.nsc_model.specs.Made.{Adds, AddsByRefusedInvalidation, AddsNothing, IsInvalidation, IsOneLook};
 ghost use Rattle.nsc_model.specs.Stores.{IsCounted, IsEmptied, IsFault, IsImageOf, IsInvalidateFault};
 ghost use Rattle.nsc_sourcebook.specs.Book.{FitsBook};
 ghost use Rattle.nsc_sourcebook.specs.Reads.{IsPart, NoneFailed};
 ghost use Rattle.nsc_database.specs.Frames.{Goes, Held, LoadedLastCycle, pass_at};
 ghost use Rattle.nsc_database.specs.Holds.{IsLooked, IsPollFault, IsPolled};
 ghost use Rattle.nsc_database.specs.Lookups.{AreMade, IsTriedAt, given_by};
+ghost use Rattle.nsc_database.specs.Made.{InsertsFor};
 ghost use Rattle.nsc_database.specs.Rests.{IsFirstLoad};
 ghost use Rattle.nsc_database.specs.Ticks.{EndsInTime};
 ghost use Rattle.nsc_model.specs.Steady.{IsSteady};
 ghost use Rattle.nsc_database.specs.Steady.{StaysSteady};
 
-use crate::desk::{Desk, Shelved};
+use crate::desk::Desk;
+use crate::made::Made;
 use crate::pass::DbPass;
 use crate::room::{OfDb, Room};
+use crate::shelved::Shelved;
 use nsc_base::{Buf, Bytes, NoMemory};
 use nsc_model::{Answerer, CacheFault, Db, DbConf, Given, Kind, LookupFault, Stats, Why};
 use nsc_outside::FileSet;
@@ -58,6 +62,7 @@ impl<D: OfDb, F: FileSet + Drop, A: Answerer + Drop, B: Room> Base<D, F, A, B> {
         ensures legal { IfOk result (λ pass. Legal pass.pass.seen) }
         ensures steady { IfOk result (λ pass. IsSteady B.held D.db pass.pass.seen) }
         ensures calm { IfOk result (λ pass. F.faults pass.files ≡ 0) }
+        ensures made { IfOk result (λ pass. pass.made ≡ []) }
     {
         let mut pass = self.newcomer(rt, alloc)?;
         self.desk.lock(rt).follow(&mut pass)?;
@@ -68,6 +73,7 @@ impl<D: OfDb, F: FileSet + Drop, A: Answerer + Drop, B: Room> Base<D, F, A, B> {
     fn newcomer<R: Wait>(&self, rt: &R, alloc: Global) -> Result<DbPass<F, B>, NoMemory>
         ensures db { IfOk result (λ pass. pass.db ≡ D.db) }
         ensures calm { IfOk result (λ pass. F.faults pass.files ≡ 0) }
+        ensures made { IfOk result (λ pass. pass.made ≡ []) }
     {
         let reply = Buf::new(alloc, 65_536)?;
         let mut shelved = self.shelved.lock(rt);
@@ -78,6 +84,7 @@ impl<D: OfDb, F: FileSet + Drop, A: Answerer + Drop, B: Room> Base<D, F, A, B> {
             pass,
             files,
             reply,
+            made: Made::none(),
             room: PhantomData,
         })
     }
@@ -94,6 +101,7 @@ impl<D: OfDb, F: FileSet + Drop, A: Answerer + Drop, B: Room> Base<D, F, A, B> {
         ensures frame { Held pass.old pass.new }
         ensures looked { IfOk result (λ found. IsLooked found pass.new.pass.seen (record { kind = kind; key = key.now }) pass.new.reply.content) }
         ensures steady { IsSteady B.held D.db pass.new.pass.seen }
+        ensures made { pass.new.made ≡ pass.old.made }
     {
         let mut lock = self.desk.lock(rt);
         let desk = &mut *lock;
@@ -117,6 +125,8 @@ impl<D: OfDb, F: FileSet + Drop, A: Answerer + Drop, B: Room> Base<D, F, A, B> {
         ensures files { IfOk result (λ polled. IsLookedUp D.db (F.reads pass.old.files) (F.reads pass.new.files) (F.latest pass.new.files) polled.content) }
         ensures fault { IfErr result (λ fault. IsFault fault pass.new.pass.seen (F.faults pass.old.files) (F.faults pass.new.files) (F.file_faults pass.old.files) (F.file_faults pass.new.files)) }
         ensures no_fault { OnOk result (NoneFailed F.FileSet pass.old.files pass.new.files) }
+        ensures made { OnOk result (Adds IsOneLook (pass_at pass.old) (pass_at pass.new)) }
+        ensures refused { OnErr result (AddsNothing (pass_at pass.old) (pass_at pass.new)) }
     {
         pass.learn();
         let mut shelved = self.shelved.lock(rt);
@@ -148,12 +158,14 @@ impl<D: OfDb, F: FileSet + Drop, A: Answerer + Drop, B: Room> Base<D, F, A, B> {
         ensures polled { IfOk result (λ polled. IsPolled pass.old.pass.seen pass.new.pass.seen epoch polled) }
         ensures steady { IsSteady B.held D.db pass.new.pass.seen }
         ensures fault { IfErr result (λ fault. IsPollFault fault pass.new.pass.seen) }
+        ensures made { OnOk result (Adds IsOneLook (pass_at pass.old) (pass_at pass.new)) }
+        ensures refused { OnErr result (AddsNothing (pass_at pass.old) (pass_at pass.new)) }
     {
         let mut lock = self.desk.lock(rt);
         let desk = &mut *lock;
         desk.follow(pass)?;
         desk.bring(shelved)?;
-        let polled = desk.poll(shelved, fetched, epoch);
+        let polled = desk.poll(shelved, fetched, epoch, &mut pass.made);
         desk.show(pass);
         match polled {
             Ok(polled) => Ok(polled),
@@ -180,6 +192,8 @@ impl<D: OfDb, F: FileSet + Drop, A: Answerer + Drop, B: Room> Base<D, F, A, B> {
         ensures frame { Held pass.old pass.new }
         ensures kept { IfOk result (IsTriedAt self.now.settings (pass_at pass.old) (pass_at pass.new) insertions.loaded) }
         ensures steady { IsSteady B.held D.db pass.new.pass.seen }
+        ensures made { IfOk result (λ given. Adds (InsertsFor insertions given) (pass_at pass.old) (pass_at pass.new)) }
+        ensures refused { OnErr result (AddsNothing (pass_at pass.old) (pass_at pass.new)) }
     {
         pass.learn();
         let Insertions { loaded, beside } = insertions;
@@ -189,7 +203,7 @@ impl<D: OfDb, F: FileSet + Drop, A: Answerer + Drop, B: Room> Base<D, F, A, B> {
         let (said, loaded) = desk.keep(alloc, &self.settings, pass, loaded)?;
         // The pass sees the first insertion, behind which the second one goes.
         desk.show(pass);
-        desk.keep_beside(said, beside.as_ref());
+        desk.keep_beside(said, beside.as_ref(), &mut pass.made);
         desk.show_cycle(pass);
         Ok(given_after(said, loaded.into_reply()))
     }
@@ -237,11 +251,13 @@ impl<D: OfDb, F: FileSet + Drop, A: Answerer + Drop, B: Room> Base<D, F, A, B> {
         ensures steady { IsSteady B.held D.db pass.new.pass.seen }
         ensures done { IfOk result (λ epoch. IsEmptied pass.old.pass.seen pass.new.pass.seen epoch) }
         ensures fault { IfErr result (λ fault. IsInvalidateFault fault pass.new.pass.seen (LoadedLastCycle pass.old pass.new)) }
+        ensures made { IfOk result (λ epoch. Adds (IsInvalidation epoch) (pass_at pass.old) (pass_at pass.new)) }
+        ensures refused { IfErr result (AddsByRefusedInvalidation (pass_at pass.old) (pass_at pass.new)) }
     {
         let mut lock = self.desk.lock(rt);
         let desk = &mut *lock;
         desk.follow(pass)?;
-        let ended = desk.invalidate();
+        let ended = desk.invalidate(&mut pass.made);
         desk.show_cycle(pass);
         match ended {
             Ok(epoch) => Ok(epoch),
@@ -255,6 +271,7 @@ impl<D: OfDb, F: FileSet + Drop, A: Answerer + Drop, B: Room> Base<D, F, A, B> {
         ensures frame { Held pass.old pass.new }
         ensures steady { IsSteady B.held D.db pass.new.pass.seen }
         ensures noted { IfOk result (λ epoch. epoch ≡ invalidations pass.new.pass.seen) }
+        ensures made { pass.new.made ≡ pass.old.made }
     {
         let mut lock = self.desk.lock(rt);
         let desk = &mut *lock;
@@ -273,6 +290,7 @@ impl<D: OfDb, F: FileSet + Drop, A: Answerer + Drop, B: Room> Base<D, F, A, B> {
         ensures frame { Held pass.old pass.new }
         ensures steady { IsSteady B.held D.db pass.new.pass.seen }
         ensures image { IfOk result (IsImageOf D.db pass.new.pass.seen) }
+        ensures made { pass.new.made ≡ pass.old.made }
     {
         let mut lock = self.desk.lock(rt);
         let desk = &mut *lock;
@@ -287,6 +305,7 @@ impl<D: OfDb, F: FileSet + Drop, A: Answerer + Drop, B: Room> Base<D, F, A, B> {
         ensures steady { IsSteady B.held D.db pass.new.pass.seen }
         ensures counted { IfOk result (λ stats. IsCounted self.now.settings pass.new.pass.present.words pass.new.pass.seen stats) }
         ensures enabled { IfOk result (λ stats. stats.enabled ≡ self.now.settings.enabled) }
+        ensures made { pass.new.made ≡ pass.old.made }
     {
         let mut lock = self.desk.lock(rt);
         let desk = &mut *lock;

@@ -49,7 +49,7 @@ impl<F: FileSet + Drop, A: Answerer + Drop, B: Room> Store for Database<F, A, B>
 
     ghost is_pass = { λ d p. p.db ≡ d.db };
 
-    ghost at = { λ p. record { seen = p.pass.seen; faults = F.faults p.files; file_faults = F.file_faults p.files; reads = F.reads p.files; latest = F.latest p.files; searches = p.pass.searching.searches; first = p.pass.searching.first; last = p.pass.searching.last; words = p.pass.present.words } };
+    ghost at = { λ p. record { seen = p.pass.seen; made = p.made; faults = F.faults p.files; file_faults = F.file_faults p.files; reads = F.reads p.files; latest = F.latest p.files; searches = p.pass.searching.searches; first = p.pass.searching.first; last = p.pass.searching.last; words = p.pass.present.words } };
 
     ghost held = { λ d. B.held };
 

@@ -2,27 +2,14 @@
 ghost use Rattle.std.specs.Prelude.{◌≡◌};
 ghost use Rattle.std.specs.Bool.{OnTrue};
 ghost use Rattle.nsc_model.specs.Steady.{IsSteady};
-ghost use Rattle.nsc_writer.specs.Raised.{raised};
 ghost use Rattle.nsc_database.specs.Frames.{Held};
 
 use crate::base::Base;
-use crate::desk::Desk;
 use crate::pass::DbPass;
 use crate::room::{OfDb, Room};
 use nsc_model::Answerer;
 use nsc_outside::FileSet;
 use std::sync::Wait;
-
-impl<D: OfDb, B: Room> Desk<D, B> {
-    /// Counts lookups that live entries answered: of found and of not-found replies. Each number stays at 2^62.
-    pub fn note_hits(&mut self, found: u64, not_found: u64)
-        ensures writer { self.new.writer ≡ record self.old.writer { hits = raised found not_found self.old.writer.hits } }
-        ensures left { self.new.left ≡ self.old.left }
-        ensures ticked { self.new.ticked ≡ self.old.ticked }
-    {
-        self.writer.note_hits(found, not_found);
-    }
-}
 
 impl<D: OfDb, F: FileSet + Drop, A: Answerer + Drop, B: Room> Base<D, F, A, B> {
     /// Goes on to the table that is written, if the writer's lock is free. It adds no record, and waits for no one. `false` if the lock
@@ -31,6 +18,7 @@ impl<D: OfDb, F: FileSet + Drop, A: Answerer + Drop, B: Room> Base<D, F, A, B> {
         requires { pass.old.db ≡ D.db }
         ensures frame { Held pass.old pass.new }
         ensures followed { OnTrue result (IsSteady B.held D.db pass.new.pass.seen) }
+        ensures made { pass.new.made ≡ pass.old.made }
     {
         pass.learn();
         let Some(mut desk) = self.desk.try_lock() else {

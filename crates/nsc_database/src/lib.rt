@@ -7,9 +7,11 @@ mod desk;
 mod growing;
 mod in_place;
 mod lookup;
+mod made;
 mod opened;
 mod pass;
 mod room;
+mod shelved;
 mod tick;
 
 pub use database::Database;

@@ -3,9 +3,10 @@ ghost use Rattle.std.specs.Prelude.{◌≡◌, ◌≤◌, ◌<◌, ◌^◌, leng
 ghost use Rattle.nsc_model.specs.Answers.{answer_of};
 ghost use Rattle.nsc_model.specs.Entry.{key_limit};
 ghost use Rattle.nsc_model.specs.Kinds.{database_of};
+ghost use Rattle.nsc_model.specs.Made.{AddsByLookup, AddsByRefusedLookup};
 ghost use Rattle.nsc_model.specs.Stores.{GivesAnswer, GivesUp, IsOfFiles};
 ghost use Rattle.nsc_sourcebook.specs.Reads.{NoneFailed};
-ghost use Rattle.nsc_database.specs.Frames.{Goes, Held, LoadedLastCycle};
+ghost use Rattle.nsc_database.specs.Frames.{Goes, Held, LoadedLastCycle, pass_at};
 ghost use Rattle.nsc_database.specs.Lookups.{IsFoundIfCached};
 ghost use Rattle.nsc_model.specs.Steady.{IsSteady};
 
@@ -41,6 +42,8 @@ impl<D: OfDb, F: FileSet + Drop, A: Answerer + Drop, B: Room> Base<D, F, A, B> {
         ensures files { IfOk result (IsOfFiles D.db (F.reads pass.old.files) (F.reads pass.new.files) (F.latest pass.new.files) B.held (record { kind = kind; key = key.now })) }
         ensures fault { IfErr result (GivesUp self.now.settings pass.old.pass.seen pass.new.pass.seen (record { kind = kind; key = key.now }) (F.faults pass.old.files) (F.faults pass.new.files) (F.file_faults pass.old.files) (F.file_faults pass.new.files)) }
         ensures no_fault { OnOk result (NoneFailed F.FileSet pass.old.files pass.new.files) }
+        ensures made { IfOk result (AddsByLookup self.now.settings (record { kind = kind; key = key.now }) (pass_at pass.old) (pass_at pass.new)) }
+        ensures refused { IfErr result (AddsByRefusedLookup (pass_at pass.old) (pass_at pass.new)) }
     {
         let found = match self.find(rt, pass, kind, key) {
             Ok(found) => found,
@@ -94,6 +97,7 @@ impl<D: OfDb, F: FileSet + Drop, A: Answerer + Drop, B: Room> Base<D, F, A, B> {
         ensures frame { Held pass.old pass.new }
         ensures found { IfOk result (λ found. IsFoundIfCached self.now.settings found pass.new.pass.seen (record { kind = kind; key = key.now }) pass.new.reply.content) }
         ensures steady { IsSteady B.held D.db pass.new.pass.seen }
+        ensures made { pass.new.made ≡ pass.old.made }
     {
         if self.settings.enabled {
             return self.look(rt, pass, kind, key);

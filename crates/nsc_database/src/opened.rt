@@ -11,9 +11,11 @@ ghost use Rattle.nsc_sourcebook.specs.Reads.{IsFetched, IsPart, NoneFailed, NotF
 
 use crate::base::Base;
 use crate::database::{Bases, Database};
-use crate::desk::{Desk, Shelved};
+use crate::desk::Desk;
+use crate::made::Made;
 use crate::pass::DbPass;
 use crate::room::{OfDb, Room};
+use crate::shelved::Shelved;
 use nsc_base::{Buf, NoMemory};
 use nsc_image::{restore, verify};
 use nsc_model::{Answerer, Conf, Db, DbConf};
@@ -145,6 +147,7 @@ impl<F: FileSet + Drop, A: Answerer + Drop> Opened<F, A> {
         ensures database { result.0 ≡ record { db = self.db; settings = self.settings; reloads = self.reloads } }
         ensures pass { (result.1.db ≡ self.db) × (result.1.pass.seen ≡ self.pass.seen) }
         ensures steady { IsSteady B.held self.db result.1.pass.seen }
+        ensures made { result.1.made ≡ [] }
     {
         let Opened {
             book,
@@ -179,6 +182,7 @@ impl<F: FileSet + Drop, A: Answerer + Drop> Opened<F, A> {
             pass,
             files,
             reply,
+            made: Made::none(),
             room: PhantomData,
         };
         (Database { bases }, pass)
@@ -263,13 +267,7 @@ impl<F: FileSet + Drop, A: Answerer + Drop> Parts<F, A> {
                 of: PhantomData,
                 room: PhantomData,
             }),
-            desk: Mutex::new(Desk {
-                writer,
-                left,
-                ticked: 0,
-                of: PhantomData,
-                room: PhantomData,
-            }),
+            desk: Mutex::new(Desk::new(writer, left)),
             answers,
             db,
             settings,

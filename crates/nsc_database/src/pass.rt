@@ -1,11 +1,12 @@
 // `DbPass`: a caller's pass: reader's handles at the tables, a file set, a reply buffer.
-ghost use Rattle.std.specs.Prelude.{◌≡◌, ◌+◌, ◌≤◌, All, length};
+ghost use Rattle.std.specs.Prelude.{◌≡◌, ◌+◌, ◌++◌, ◌≤◌, All, length};
 ghost use Rattle.nsc_model.specs.Entry.{key_limit, kept_limit};
 ghost use Rattle.nsc_model.specs.History.{IsFit, IsPrefix, Legal};
 ghost use Rattle.nsc_model.specs.InPlace.{InPlaceClause};
 ghost use Rattle.nsc_model.specs.Machine.{last_count};
 ghost use Rattle.nsc_model.specs.Stores.{Continues};
 
+use crate::made::Made;
 use crate::room::Room;
 use nsc_base::Buf;
 use nsc_model::{Db, InPlace, Kind, Sought};
@@ -13,14 +14,15 @@ use nsc_outside::FileSet;
 use nsc_seats::Seats;
 use std::marker::PhantomData;
 
-/// A caller's pass of a database: its seats at the tables, which have seen a part of the history, a file set of its own, and a buffer
-/// for replies.
+/// A caller's pass of a database: its seats at the tables, which have seen a part of the history, a file set of its own, a buffer
+/// for replies, and the records that its calls added to the history.
 #[derive(Drop)]
 pub struct DbPass<F: FileSet + Drop, B: Room> {
     pub(crate) db: Db,
     pub(crate) pass: Seats,
     pub(crate) files: F,
     pub(crate) reply: Buf,
+    pub(crate) made: Made,
     pub(crate) room: PhantomData<B>,
     pub ghost own: { pass.table ≡ B.table db },
     pub ghost buffer: { reply.limit ≡ kept_limit },
@@ -45,6 +47,7 @@ impl<F: FileSet + Drop, B: Room> DbPass<F, B> {
         requires limit { out.old.limit ≡ kept_limit }
         ensures db { self.new.db ≡ self.old.db }
         ensures files { self.new.files ≡ self.old.files }
+        ensures made { self.new.made ≡ self.old.made }
         ensures limit { out.new.limit ≡ out.old.limit }
         ensures seen { Continues self.old.pass.seen self.new.pass.seen }
         ensures searches { self.new.pass.searching.searches ≡ self.old.pass.searching.searches + 1 }
@@ -61,6 +64,7 @@ impl<F: FileSet + Drop, B: Room> DbPass<F, B> {
         requires limit { out.old.limit ≡ kept_limit }
         ensures db { self.new.db ≡ self.old.db }
         ensures files { self.new.files ≡ self.old.files }
+        ensures made { self.new.made ≡ self.old.made }
         ensures limit { out.new.limit ≡ out.old.limit }
         ensures seen { Continues self.old.pass.seen self.new.pass.seen }
         ensures searches { self.new.pass.searching.searches ≡ self.old.pass.searching.searches + 1 }
@@ -76,6 +80,7 @@ impl<F: FileSet + Drop, B: Room> DbPass<F, B> {
         ensures frame { Held self.old self.new }
         ensures present { self.new.pass.present ≡ self.old.pass.present }
         ensures reply { self.new.reply ≡ self.old.reply }
+        ensures made { self.new.made ≡ self.old.made }
         ensures searches { self.new.pass.searching.searches ≡ self.old.pass.searching.searches + 1 }
         ensures known { self.old.pass.searching.known ≤ self.new.pass.searching.last }
         ensures most { self.new.pass.searching.last ≤ last_count }
@@ -89,6 +94,7 @@ impl<F: FileSet + Drop, B: Room> DbPass<F, B> {
         requires { other.db ≡ self.old.db }
         ensures db { self.new.db ≡ self.old.db }
         ensures files { self.new.files ≡ self.old.files }
+        ensures made { self.new.made ≡ other.made ++ self.old.made }
         ensures searches { self.old.pass.searching.searches ≤ self.new.pass.searching.searches }
         ensures before { IsPrefix self.old.pass.seen self.new.pass.seen }
         ensures other { IsPrefix other.pass.seen self.new.pass.seen }
@@ -100,8 +106,10 @@ impl<F: FileSet + Drop, B: Room> DbPass<F, B> {
             pass,
             files: _,
             reply: _,
+            made,
             room: _,
         } = other;
+        self.made.join(made);
         self.pass.meet(pass);
         self.learn();
     }

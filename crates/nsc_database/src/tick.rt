@@ -4,20 +4,22 @@ ghost use Rattle.std.specs.Bool.{OnFalse, OnTrue};
 ghost use Rattle.nsc_model.specs.History.{NoneLive, invalidations};
 ghost use Rattle.nsc_model.specs.Reloads.{Reloaded};
 ghost use Rattle.nsc_model.specs.Machine.{room_of};
+ghost use Rattle.nsc_model.specs.Made.{Adds, AddsByRefusedTick};
 ghost use Rattle.nsc_model.specs.Stores.{AreLoadedAgain, IsTickFault};
 ghost use Rattle.nsc_sourcebook.specs.Reads.{NoneFailed};
 ghost use Rattle.nsc_database.specs.Frames.{Goes, Held, LoadedLastCycle, pass_at};
 ghost use Rattle.nsc_database.specs.Holds.{IsPolledVersion};
+ghost use Rattle.nsc_database.specs.Made.{AddsByRefusedHold, ChecksBy};
 ghost use Rattle.nsc_model.specs.Steady.{IsSteady};
 ghost use Rattle.nsc_database.specs.Steady.{StaysSteady};
 ghost use Rattle.nsc_turns.specs.Loads.{anew_of};
-ghost use Rattle.nsc_database.specs.Ticks.{AreOver, EndsInTime, IsChecked, IsDue, IsHoldFault, IsTickedIfCached};
+ghost use Rattle.nsc_database.specs.Ticks.{AreOver, EndsInTime, IsChecked, IsDue, IsHoldFault, IsTickedIfCached, fault_from};
 
 use crate::base::Base;
 use crate::pass::DbPass;
 use crate::room::{OfDb, Room};
 use nsc_base::NoMemory;
-use nsc_model::{Answerer, LookupFault};
+use nsc_model::{Answerer, CacheFault, LookupFault};
 use nsc_outside::FileSet;
 use nsc_pruner::Due;
 use nsc_sourcebook::Polled;
@@ -43,6 +45,7 @@ impl<D: OfDb, F: FileSet + Drop, A: Answerer + Drop, B: Room> Base<D, F, A, B> {
         ensures uncached { OnFalse self.now.settings.enabled (IsOk result × (pass.new ≡ pass.old)) }
         ensures fault { IfErr result (λ fault. IsTickFault fault self.now.settings now pass.old.pass.seen pass.new.pass.seen (LoadedLastCycle pass.old pass.new) (F.faults pass.old.files) (F.faults pass.new.files) (F.file_faults pass.old.files) (F.file_faults pass.new.files)) }
         ensures no_fault { OnOk result (NoneFailed F.FileSet pass.old.files pass.new.files) }
+        ensures refused { IfErr result (AddsByRefusedTick (pass_at pass.old) (pass_at pass.new)) }
     {
         if !self.settings.enabled {
             pass.learn();
@@ -86,11 +89,13 @@ impl<D: OfDb, F: FileSet + Drop, A: Answerer + Drop, B: Room> Base<D, F, A, B> {
         ensures reloaded { OnOk result (Reloaded (B.brought D.db) self.now.reloads pass.new.pass.seen) }
         ensures again { OnOk result (AreLoadedAgain (room_of self.now.settings) pass.new.pass.seen ⊎ LoadedLastCycle pass.old pass.new) }
         ensures fault { IfErr result (λ fault. IsHoldFault fault pass.new.pass.seen (LoadedLastCycle pass.old pass.new) (NoneLive pass.new.pass.seen)) }
+        ensures made { IfOk result (λ checked. Adds (ChecksBy checked) (pass_at pass.old) (pass_at pass.new)) }
+        ensures refused { IfErr result (AddsByRefusedHold (pass_at pass.old) (pass_at pass.new)) }
     {
         let mut lock = self.desk.lock(rt);
         let desk = &mut *lock;
         desk.follow(pass)?;
-        let checked = desk.check(alloc, &self.settings, self.reloads, now);
+        let checked = desk.check(alloc, &self.settings, self.reloads, now, &mut pass.made);
         desk.show_cycle(pass);
         checked
     }
@@ -117,6 +122,7 @@ impl<D: OfDb, F: FileSet + Drop, A: Answerer + Drop, B: Room> Base<D, F, A, B> {
         ensures reloaded { OnOk result (Reloaded (B.brought D.db) self.now.reloads pass.new.pass.seen) }
         ensures again { OnOk result (AreLoadedAgain (room_of self.now.settings) pass.new.pass.seen ⊎ LoadedLastCycle pass.old pass.new) }
         ensures fault { IfErr result (λ fault. IsHoldFault fault pass.new.pass.seen (LoadedLastCycle pass.old pass.new) (AreOver epoch pass.new.pass.seen due.items)) }
+        ensures refused { IfErr result (AddsByRefusedHold (pass_at pass.old) (pass_at pass.new)) }
     {
         pass.learn();
         let loads = match self.loads(alloc, polled, &due, now) {
@@ -126,7 +132,7 @@ impl<D: OfDb, F: FileSet + Drop, A: Answerer + Drop, B: Room> Base<D, F, A, B> {
         let mut lock = self.desk.lock(rt);
         let desk = &mut *lock;
         desk.follow(pass)?;
-        let renewed = desk.renew(epoch, &mut due, &loads, now);
+        let renewed = desk.renew(epoch, &mut due, &loads, now, &mut pass.made);
         desk.show_cycle(pass);
         match renewed {
             Ok(()) => Ok(()),
@@ -164,5 +170,15 @@ impl<D: OfDb, F: FileSet + Drop, A: Answerer + Drop, B: Room> Base<D, F, A, B> {
             return None;
         }
         self.answers.prepare_further(alloc, polled.ready())
+    }
+}
+
+/// Tells why a call of a cache gave up, as a lookup does.
+pub(crate) fn lookup_fault(fault: CacheFault) -> LookupFault
+    ensures { result ≡ fault_from fault }
+{
+    match fault {
+        CacheFault::NoMemory => LookupFault::NoMemory,
+        CacheFault::Spent { count } => LookupFault::Spent { count },
     }
 }

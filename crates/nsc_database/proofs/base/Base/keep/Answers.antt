@@ -1,4 +1,4 @@
-use Rattle.std.proofs.Common.{◌≡◌, ◌∙◌, ◌≤◌, ℕ, List, Option, ap, rules, subst, sym}
+use Rattle.std.proofs.Common.{refl, ◌≡◌, ◌∙◌, ◌≤◌, ℕ, List, Option, ap, rules, subst, sym}
 use Rattle.std.specs.Prelude.{IfSome}
 use Rattle.atomic_table.specs.Seated.{TableId}
 use Rattle.nsc_model.specs.declared.record.Record.{Record}
@@ -6,13 +6,15 @@ use Rattle.nsc_model.specs.History.{IsPrefix}
 use Rattle.nsc_model.specs.Machine.{last_count}
 use Rattle.nsc_writer.specs.Loaded.{Loaded}
 use Rattle.nsc_writer.specs.Writer.{IsAnswered, Writer}
-use Rattle.nsc_database.specs.Frames.{LoadedLastCycle}
+use Rattle.nsc_database.specs.Frames.{LoadedLastCycle, pass_at}
 use Rattle.nsc_database.specs.Holds.{IsKept}
 use Rattle.nsc_database.specs.Rests.{Desk, IsFirstLoad}
 use Rattle.nsc_turns.proofs.Renewed.{answered_on}
 use Rattle.nsc_database.proofs.Beside.{cycle_beside, first_on, kept_beside}
 use Rattle.nsc_database.proofs.Shown.{inserted_since}
-use Rattle.nsc_database.proofs.Standing.{held_through, loaded_before}
+use Rattle.nsc_database.proofs.Standing.{held_past, held_through, loaded_before}
+use Rattle.nsc_database.specs.Made.{Enters, InsertsBehind}
+use Rattle.nsc_database.proofs.Added.{adds_both}
 use Rattle.nsc_database.proofs.base.Base.keep.Goals as goal
 
 pub keep-requires-clause-answered : goal.keep-requires-clause-answered
@@ -31,7 +33,7 @@ pub returns-in_err-said-clause-frame : goal.returns-in_err-said-clause-frame
 returns-in_err-said-clause-frame g c = held_through _ _ _ c.in_ok-follow.ensures.frame c.in_err-said.ensures.frame
 
 pub returns-clause-frame : goal.returns-clause-frame
-returns-clause-frame g c = held_through _ _ _ c.in_ok-follow.ensures.frame (held_through _ _ _ c.in_ok-said.ensures.frame (held_through _ _ _ c.show.ensures.frame c.show_cycle.ensures.frame))
+returns-clause-frame g c = held_through _ _ _ c.in_ok-follow.ensures.frame (held_through _ _ _ c.in_ok-said.ensures.frame (held_past _ _ _ _ refl refl refl c.show.ensures.frame c.show_cycle.ensures.frame))
 
 pub returns-clause-kept : goal.returns-clause-kept
 returns-clause-kept g c =
@@ -55,3 +57,8 @@ returns-clause-kept g c =
       inserted = subst (λ (h : List Record). IsKept settings words last_cycle said loaded c.args.pass.now.pass.seen h) (sym c.show_cycle.ensures.seen) still;
       gives = search rules;
     }
+
+pub returns-clause-made : goal.returns-clause-made
+returns-clause-made g c =
+    adds_both c.in_ok-said.said c.args.insertions c.into_reply.result _ (pass_at c.args.pass.now) (pass_at c.show_cycle.new.pass) c.follow.new.pass.made c.keep.new.pass.made c.show.new.pass.made c.keep_beside.new.made (search rules) c.in_ok-follow.ensures.made
+    c.in_ok-said.ensures.made c.show.ensures.made (subst (λ (o : Option Loaded). Enters (InsertsBehind c.in_ok-said.said o) c.show.new.self.writer.seen c.keep_beside.new.self.writer.seen c.show.new.pass.made c.keep_beside.new.made) c.as_ref.ensures.value c.keep_beside.ensures.made) c.show_cycle.ensures.made

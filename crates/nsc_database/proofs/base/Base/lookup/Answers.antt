@@ -3,18 +3,22 @@ use Rattle.std.specs.Prelude.{IfSome}
 use Rattle.std.proofs.lemmas.Bool.{OnFalse_from, false≢true}
 use Rattle.nsc_model.specs.declared.answer.Request.{Request}
 use Rattle.nsc_model.specs.History.{PolledSince}
+use Rattle.nsc_model.specs.Reads.{IsLookedUp}
 use Rattle.nsc_model.specs.Stores.{IsHit, reply_of}
 use Rattle.nsc_turns.specs.declared.answering.Answering.{Answering}
 use Rattle.nsc_writer.specs.Loaded.{Loaded}
 use Rattle.nsc_writer.specs.Writer.{IsAnswered}
-use Rattle.nsc_database.specs.Frames.{LoadedLastCycle}
+use Rattle.nsc_database.specs.Frames.{LoadedLastCycle, pass_at}
 use Rattle.nsc_turns.specs.declared.entries.HitOrMiss.TheVariants as looked
 use Rattle.nsc_database.specs.Lookups.{IsFoundIfCached, IsTried}
 use Rattle.nsc_database.specs.Rests.{IsFirstLoad, IsLoadedOf}
 use Rattle.nsc_database.proofs.Beside.{beside_first}
-use Rattle.nsc_database.proofs.Lookups.{Anew, anew_answers, anew_given, answered_before, found_none, given_before, hit_answer, is_missed, kept_reply, loaded_of, missed_at, poll_answered, tried_to}
+use Rattle.nsc_database.proofs.Lookups.{Anew, anew_answers, anew_given, answered_before, found_none, given_before, hit_answer, is_missed, kept_reply, loaded_of, made_anew, missed_at, poll_answered, tried_to}
 use Rattle.nsc_database.proofs.Standing.{goes_after, goes_on, loaded_before}
 use Rattle.nsc_database.proofs.Steady.{is_of_held}
+use Rattle.nsc_database.proofs.Ticked.{files_kept}
+use Rattle.nsc_writer.proofs.Later.{version_on}
+use Rattle.nsc_database.proofs.Added.{adds_after, look_at_most, looked_and_kept, refused_lookup}
 use Rattle.nsc_database.proofs.base.Base.lookup.Goals as goal
 
 -- ---- a hit
@@ -129,3 +133,27 @@ returns-in-Ok-keep-clause-answer g c =
           (subst (λ (l : Loaded). IsTried settings words last_cycle l mid after c.in-Ok-keep.given) c.in-Ok-load.ensures.loaded tried));
       uncached = OnFalse_from settings.enabled _ (λ off. absurd (false≢true (sym off ∙ c.if-not-self.false)));
     }
+
+pub returns-in-Ok-keep-clause-files : goal.returns-in-Ok-keep-clause-files
+returns-in-Ok-keep-clause-files g c =
+    let request : Request = record { kind = c.args.kind; key = c.args.key.now } in
+    let content = c.in-Ok-poll.polled.content in
+    let tried = c.in-Ok-keep.ensures.kept in
+    record {
+      made = made_anew g.D.OfDb.db tried.said _ c.in-Ok-keep.given _ _ _ request content tried.gives
+          (files_kept (λ a b. IsLookedUp g.D.OfDb.db (g.F.FileSet.reads a) (g.F.FileSet.reads b) (g.F.FileSet.latest b) content) _ _ _ _ c.find.ensures.frame.files c.keep.ensures.frame.files c.in-Ok-poll.ensures.files)
+          (sym (ap (λ (l : Loaded). l.answer.bytes) c.in-Ok-load.ensures.loaded));
+      of_held = is_of_held g.B.Room.held g.D.OfDb.db c.args.pass.now.pass.seen c.keep.new.pass.pass.seen request _ c.keep.ensures.frame.legal c.keep.ensures.steady (returns-in-Ok-keep-clause-answer g c).answered;
+    }
+
+-- ---- what it adds
+
+pub returns-in-Err-poll-clause-refused : goal.returns-in-Err-poll-clause-refused
+returns-in-Err-poll-clause-refused g c = refused_lookup c.in-Err-poll.fault (pass_at c.args.pass.now) (pass_at c.poll.new.pass) (c.in-Err-poll.ensures.refused ∙ c.in-Ok.ensures.made)
+
+pub returns-in-Ok-keep-clause-made : goal.returns-in-Ok-keep-clause-made
+returns-in-Ok-keep-clause-made g c =
+    let request : Request = record { kind = c.args.kind; key = c.args.key.now } in
+    looked_and_kept c.in-Ok-keep.given c.args.self.now.settings g.D.OfDb.db c.in-Ok-poll.polled c.args.now request c.in-Ok-load.insertions (pass_at c.args.pass.now) (pass_at c.poll.new.pass) (pass_at c.keep.new.pass)
+    (adds_after (pass_at c.args.pass.now) (pass_at c.find.new.pass) (pass_at c.poll.new.pass) c.find.ensures.made c.in-Ok-poll.ensures.made) c.in-Ok-keep.ensures.made c.in-Ok-load.ensures
+    (version_on c.poll.new.pass.pass.seen c.keep.new.pass.pass.seen c.in-Ok-poll.polled.stamp.version c.in-Ok-poll.polled.content c.keep.ensures.frame.legal c.poll.ensures.frame.legal c.keep.ensures.frame.before c.in-Ok-poll.ensures.polled.version)

@@ -1,4 +1,4 @@
-use Rattle.std.proofs.Common.{◌∙◌, ℕ, ◌⊎◌, All, List, Option, ap, arith, inl, inr, subst, sym}
+use Rattle.std.proofs.Common.{refl, ◌∙◌, ℕ, ◌⊎◌, All, List, Option, ap, arith, inl, inr, subst, sym}
 use Rattle.nsc_model.specs.declared.conf.DbConf.{DbConf}
 use Rattle.nsc_model.specs.declared.record.Record.{Record}
 use Rattle.nsc_model.specs.History.{IsPrefix}
@@ -8,12 +8,13 @@ use Rattle.nsc_model.specs.Stores.{AreLoadedAgain, IsUnmoved}
 use Rattle.nsc_pruner.specs.Due.{Due}
 use Rattle.nsc_database.specs.Rests.{Desk}
 use Rattle.nsc_turns.specs.declared.answering.Answering.{Answering}
-use Rattle.nsc_database.specs.Frames.{LoadedLastCycle}
+use Rattle.nsc_database.specs.Frames.{LoadedLastCycle, pass_at}
 use Rattle.nsc_database.specs.Ticks.{AreAnew, AreOver, IsDue}
 use Rattle.nsc_database.proofs.Pruning.{all_due_on}
 use Rattle.nsc_database.proofs.Renewed.{anew_on}
 use Rattle.nsc_database.proofs.Shown.{invalidations_on, unmoved_to}
-use Rattle.nsc_database.proofs.Standing.{held_through, loaded_before}
+use Rattle.nsc_database.proofs.Standing.{held_past, loaded_before}
+use Rattle.nsc_database.proofs.Added.{refused_renewal}
 use Rattle.nsc_database.proofs.base.Base.renew.Goals as goal
 
 pub renew-renewed-requires-clause-noted : goal.renew-renewed-requires-clause-noted
@@ -38,10 +39,10 @@ renew-renewed-requires-clause-loads g c =
     (anew_on c.args.pass.now.pass.seen c.follow.new.pass.pass.seen c.args.epoch c.deref.result.now c.deref-2.result.now c.learn.ensures.legal c.in_ok-follow.ensures.frame.legal c.in_ok-follow.ensures.frame.before anew)
 
 pub returns-in-Ok-renewed-clause-frame : goal.returns-in-Ok-renewed-clause-frame
-returns-in-Ok-renewed-clause-frame g c = held_through _ _ _ c.in_ok-follow.ensures.frame c.show_cycle.ensures.frame
+returns-in-Ok-renewed-clause-frame g c = held_past _ _ _ _ refl refl refl c.in_ok-follow.ensures.frame c.show_cycle.ensures.frame
 
 pub returns-clause-frame : goal.returns-clause-frame
-returns-clause-frame g c = held_through _ _ _ c.in_ok-follow.ensures.frame c.show_cycle.ensures.frame
+returns-clause-frame g c = held_past _ _ _ _ refl refl refl c.in_ok-follow.ensures.frame c.show_cycle.ensures.frame
 
 pub returns-in-Ok-renewed-clause-again : goal.returns-in-Ok-renewed-clause-again
 returns-in-Ok-renewed-clause-again g c =
@@ -55,3 +56,8 @@ returns-clause-fault g c =
     let last_cycle : Type 0 = LoadedLastCycle c.args.pass.now c.show_cycle.new.pass in
     subst (λ (x : List Record × List Due). IsUnmoved x.0 last_cycle c.in-Err-renewed.spent.count (AreOver c.args.epoch x.0 x.1)) (λ i. (sym c.show_cycle.ensures.seen i, c.deref_mut.ensures.value i))
     (unmoved_to _ _ last_cycle _ _ (λ high. loaded_before c.args.pass.now c.follow.new.pass c.show_cycle.new.pass c.in_ok-follow.ensures.frame.searches (c.show_cycle.ensures.cycle high)) c.in-Err-renewed.ensures.spent)
+
+pub returns-clause-refused : goal.returns-clause-refused
+returns-clause-refused g c =
+    refused_renewal c.in-Err-renewed.spent.count c.renew-renewed.new.self.writer (pass_at c.args.pass.now) (pass_at c.show_cycle.new.pass) c.follow.new.pass.made c.renew-renewed.new.made c.in_ok-follow.ensures.made c.in-Err-renewed.ensures.refused c.show_cycle.ensures.made
+    (λ high. loaded_before c.args.pass.now c.follow.new.pass c.show_cycle.new.pass c.in_ok-follow.ensures.frame.searches (c.show_cycle.ensures.cycle high))

@@ -1,9 +1,10 @@
-use Rattle.std.proofs.Common.{List, ap, subst}
+use Rattle.std.proofs.Common.{◌∙◌, List, ap, subst}
 use Rattle.nsc_model.specs.declared.answer.Request.{Request}
 use Rattle.nsc_model.specs.declared.record.Record.{Record}
 use Rattle.nsc_model.specs.Machine.{live_entry}
 use Rattle.nsc_database.specs.Holds.{IsLooked}
 use Rattle.nsc_database.specs.Rests.{Desk}
+use Rattle.nsc_database.proofs.Gained.{looked_stays}
 use Rattle.nsc_database.proofs.Rests.{rests_looked}
 use Rattle.nsc_database.proofs.Shown.{is_looked}
 use Rattle.nsc_database.proofs.Standing.{at_rest_on}
@@ -20,3 +21,8 @@ returns-clause-looked g c =
     let request : Request = record { kind = c.args.kind; key = c.args.key.now } in
     subst (λ (h : List Record). IsLooked c.look.result h request c.look.new.reply.content) (ap (λ (d : Desk). d.writer.seen) c.self.view_is)
     (is_looked c.look.result request c.self.inside.writer c.look.new.writer c.look.new.reply.content c.learn.ensures.told c.look.ensures.looks)
+
+pub returns-clause-stays : goal.returns-clause-stays
+returns-clause-stays g c =
+    let request : Request = record { kind = c.args.kind; key = c.args.key.now } in
+    looked_stays (live_entry request c.self.inside.writer.cache.entries) request c.look.result c.self.inside.writer c.look.new.writer c.look.new.reply.content c.look.ensures.looks ∙ ap (λ (d : Desk). d.writer.seen) c.self.view_is

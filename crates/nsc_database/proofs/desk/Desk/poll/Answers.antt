@@ -1,5 +1,5 @@
-use Rattle.std.proofs.Common.{◌∙◌, List, ap, arith, subst, sym}
-use Rattle.std.specs.Prelude.{IfOk}
+use Rattle.std.proofs.Common.{◌∙◌, ◌++◌, List, ap, arith, subst, sym}
+use Rattle.std.specs.Prelude.{IfOk, OnErr, OnOk}
 use Rattle.nsc_model.specs.declared.record.Record.{Record}
 use Rattle.nsc_model.specs.History.{invalidations}
 use Rattle.nsc_seats.specs.Tables.{IsChain}
@@ -7,6 +7,10 @@ use Rattle.nsc_database.specs.Holds.{IsPolled}
 use Rattle.nsc_database.specs.Rests.{Desk}
 use Rattle.nsc_database.proofs.Shown.{is_polled, is_spent, polls_on}
 use Rattle.nsc_database.proofs.Standing.{at_rest_polled}
+use Rattle.nsc_model.specs.Made.{IsOneLook}
+use Rattle.nsc_writer.specs.Writer.{Writer}
+use Rattle.nsc_database.specs.Made.{Enters, IsNone, gained}
+use Rattle.nsc_database.proofs.Gained.{enters_no_poll, enters_poll}
 use Rattle.nsc_database.proofs.desk.Desk.poll.Goals as goal
 
 pub poll-polled-requires-clause-epoch : goal.poll-polled-requires-clause-epoch
@@ -35,3 +39,13 @@ returns-clause-polled g c =
 
 pub returns-clause-spent : goal.returns-clause-spent
 returns-clause-spent g c = is_spent c.args.fetched c.args.epoch _ _ c.self.inside.writer c.poll-polled.new.writer c.poll-polled.result c.learn.ensures.told c.poll-polled.ensures.polls
+
+pub returns-clause-made : goal.returns-clause-made
+returns-clause-made g c =
+    subst (λ (h : List Record). OnOk c.poll-polled.result (Enters IsOneLook h c.poll-polled.new.writer.seen c.args.made.now c.add.new.self)) (ap (λ (d : Desk). d.writer.seen) c.self.view_is)
+    (enters_poll c.args.fetched c.args.epoch _ _ c.self.inside.writer c.poll-polled.new.writer c.poll-polled.result c.args.made.now c.add.new.self c.poll-polled.ensures.polls (c.add.ensures ∙ ap (λ (w : Writer). gained w.seen c.poll-polled.new.writer.seen ++ c.args.made.now) c.of-before.ensures))
+
+pub returns-clause-refused : goal.returns-clause-refused
+returns-clause-refused g c =
+    subst (λ (h : List Record). OnErr c.poll-polled.result (Enters IsNone h c.poll-polled.new.writer.seen c.args.made.now c.add.new.self)) (ap (λ (d : Desk). d.writer.seen) c.self.view_is)
+    (enters_no_poll c.args.fetched c.args.epoch _ _ c.self.inside.writer c.poll-polled.new.writer c.poll-polled.result c.args.made.now c.add.new.self c.poll-polled.ensures.polls (c.add.ensures ∙ ap (λ (w : Writer). gained w.seen c.poll-polled.new.writer.seen ++ c.args.made.now) c.of-before.ensures))

@@ -8,8 +8,8 @@ use Rattle.nsc_database.specs.Rests.{IsAtRest}
 use Rattle.nsc_database.proofs.Opening.{at_rest_held}
 use Rattle.nsc_database.proofs.opened.Parts.base.Goals as goal
 
-pub invariant_of-new-3 : goal.invariant_of-new-3
-invariant_of-new-3 g c =
+pub new-requires-2-clause-rest : goal.new-requires-2-clause-rest
+new-requires-2-clause-rest g c =
     let is = c.begun.view_is in
     let settings = ap (λ (b : Begun). b.settings) is ∙ c.requires.begins.1 ∙ c.requires.conf.0 in
     let reloads = ap (λ (b : Begun). b.reloads) is ∙ c.requires.begins.2 ∙ c.requires.conf.1 in
