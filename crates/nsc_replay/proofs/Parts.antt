@@ -7,10 +7,11 @@ use Rattle.nsc_model.specs.declared.kind.FileId.TheVariants as file
 use Rattle.nsc_model.specs.Content.{Content}
 use Rattle.nsc_model.specs.Files.{is_read, no_files, part_of, with_file}
 use Rattle.nsc_model.specs.Kinds.{all_files}
-use Rattle.nsc_replay.specs.Parts.{all_lent}
+use Rattle.nsc_replay.specs.Parts.{all_lent, lent}
 
 -- every file that is read, one after the other
 pub part_lent : (which : Db) (files : Content) → all_lent which files all_files no_files ≡ part_of which files
+unfolding lent
 part_lent db.Passwd files = refl
 part_lent db.Group files = refl
 part_lent db.Hosts files = refl

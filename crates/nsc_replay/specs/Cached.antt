@@ -53,7 +53,7 @@ looked_up c now request = lookup c.settings now c.files request c.writer.cache
 abbrev pub LooksUp : Request → Cached → Writer → List ℕ → Type 0
 LooksUp request before after reply = (now : ℕ) → CompletesWith (looked_up before now request) before.writer after reply
 
--- the version that a tick keeps which gave up: where memory was wanting, that of the last tick
+-- the version that a tick keeps which gave up: if memory was short, that of the last tick
 abbrev pub ticked_at : CacheFault → ℕ → ℕ → ℕ
 ticked_at faults.NoMemory ticked kept = ticked
 ticked_at (faults.Spent count) ticked kept = kept

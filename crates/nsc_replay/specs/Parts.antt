@@ -6,7 +6,7 @@ use Rattle.nsc_model.specs.Content.{Content}
 use Rattle.nsc_model.specs.Files.{file_of, is_read, with_file}
 
 -- files with one of these, where the database reads it
-abbrev pub lent : Db → Content → FileId → Content → Content
+unfoldable pub lent : Db → Content → FileId → Content → Content
 lent which files file part = if is_read which file then with_file part file (file_of files file) else part
 
 -- and with these, one after the other

@@ -1,3 +1,4 @@
+// `Cached`: one database of a replay, with its lookups, ticks and invalidations.
 ghost use Rattle.std.specs.Prelude.{◌≡◌, ◌≤◌, ◌<◌, ◌^◌, [], ◌∷◌, None, Ok, length, map, unwrap_or, option_map, IfNone, IfSome, IfOk, IfErr, OnErr, OnOk};
 ghost use Rattle.std.specs.Arc.{arc_value};
 ghost use Rattle.nsc_model.specs.Files.{no_files};

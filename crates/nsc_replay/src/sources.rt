@@ -123,6 +123,7 @@ impl Sources {
     }
 
     // A file of a content becomes what it is here, where a database reads it.
+    #[tactic(auto, unfolding(crate::specs::Parts::lent))]
     fn lend(&self, part: &mut Content, db: Db, file: FileId) -> Result<(), NoMemory>
         ensures { OnOk result (part.new ≡ lent db self.now file part.old) }
     {
