@@ -1,1 +1,2 @@
+-- The definitions of a compaction.
 pub mod Compacting

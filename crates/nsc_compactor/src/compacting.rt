@@ -1,3 +1,4 @@
+// `compact`: one compaction by a writer, which frees the words of ended entries.
 ghost use Rattle.std.specs.Prelude.{◌≡◌, None, IfOk, IfErr};
 ghost use Rattle.nsc_model.specs.Machine.{last_count};
 ghost use Rattle.nsc_compactor.specs.Compacting.{Compacts};

@@ -32,7 +32,7 @@ LookupFails before after now files request fault = FaultsBy (lookup before.setti
 abbrev pub TickFails : PlainCache → PlainCache → ℕ → Content → CacheFault → Type 0
 TickFails before after now files fault = FaultsBy (tick before.settings before.reloads now files before.ticked before.cache) files before.cache after.cache fault
 
--- the version that a tick keeps which gave up: where memory was wanting, that of the last tick
+-- the version that a tick keeps which gave up: if memory was short, that of the last tick
 abbrev pub ticked_at : CacheFault → ℕ → ℕ → ℕ
 ticked_at NoMemory ticked kept = ticked
 ticked_at (Spent count) ticked kept = kept

@@ -1,1 +1,2 @@
+-- The definitions of what is kept beside a name.
 pub mod Answered
