@@ -180,7 +180,8 @@ def check_options(table):
     for form, (must, may) in zip(FORMS + OF_COMMAND, forms):
         alike(f"form {form}", [o.letter or o.long for o in table if form in o.forms], must | may)
         check(len(must) == (form != "d"), f"form {form}: {must} must stand")
-    statuses = re.findall(r"Exit::\w+(?: \{ \.\. \})? => (\d+),", source("nsc_model/src/exit.rt"))
+    # No form of the command audits a trace, so none ends with that exit.
+    statuses = re.findall(r"Exit::(?!AuditNo\b)\w+(?: \{ \.\. \})? => (\d+),", source("nsc_model/src/exit.rt"))
     said = re.findall(r"^\.It (\d+)$", section((MAN / "nscd.8").read_text(), "EXIT STATUS"), re.M)
     # The command alone ends with 1, where no daemon runs.
     alike("exits", [*statuses, "1"], said)
