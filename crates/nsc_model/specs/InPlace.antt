@@ -19,6 +19,10 @@ pub record IsFoundInPlace (seen after : List Record) (request : Request) (bytes 
   pub marked : entry.answer.not_found ≡ not_found
   pub not_seen_to_end : HasEnd seen number → ⊥
 
+-- a compaction was under way, or another table goes on in place of the one that was searched
+abbrev pub IsOdd : InPlace → Type 0
+IsOdd answer = (cycle : ℕ) × (answer ≡ Odd cycle)
+
 -- the answer, by what CYCLE was at the search's first and at its last load, and the bytes that the buffer then holds. Only a hit leaves
 -- some
 abbrev pub InPlaceClause : List Record → List Record → Request → ℕ → ℕ → List ℕ → InPlace → Type 0

@@ -1,6 +1,6 @@
 -- What the calls of a store give a caller who had seen one beginning of the database's history before, and has seen another one
 -- after it.
-use Rattle.std.specs.Prelude.{◌≡◌, ◌≢◌, ℕ, ◌+◌, ◌^◌, ◌<◌, ◌≤◌, ◌⊎◌, false, All, List, ◌∷◌, length, map, sum_by, Option, Some}
+use Rattle.std.specs.Prelude.{◌≡◌, ◌≢◌, ℕ, ◌+◌, ◌^◌, ◌<◌, ◌≤◌, ◌⊎◌, Bool, false, All, List, ◌∷◌, length, map, sum_by, Option, Some}
 use Rattle.std.specs.Bool.{OnFalse, OnTrue}
 use Rattle.nsc_base.specs.Nodes.{node_words}
 use Rattle.nsc_model.specs.declared.answer.Request.{Request}
@@ -241,7 +241,7 @@ IsTickFault other settings now seen after last_cycle before_faults after_faults 
 -- the history that the pass has seen, and the records that the calls through the pass added to the history, both newest first;
 -- the counts of its reads that failed, in all and of each file; how often it read each file, and what the latest read gave, if that is told;
 -- how often it has begun a search in place; the CYCLE that its latest search loaded first, and the one that it loaded last;
--- and the number of words of its table.
+-- the number of words of its table; and whether the pass has seen that another table goes on in place of that one.
 pub record PassAt : Type 0 where
   pub seen : List Record
   pub made : List Record
@@ -253,6 +253,7 @@ pub record PassAt : Type 0 where
   pub first : ℕ
   pub last : ℕ
   pub words : ℕ
+  pub retired : Bool
 
 -- between two moments the pass loaded CYCLE as 2^62, at which there are no more compactions
 abbrev pub LoadedLastCycle : PassAt → PassAt → Type 0

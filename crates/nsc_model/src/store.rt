@@ -6,7 +6,7 @@ ghost use Rattle.nsc_model.specs.declared.answer.Request.{Request};
 ghost use Rattle.nsc_model.specs.declared.conf.DbConf.{DbConf};
 ghost use Rattle.nsc_model.specs.Content.{Content};
 ghost use Rattle.nsc_model.specs.Entry.{key_limit, kept_limit};
-ghost use Rattle.nsc_model.specs.InPlace.{InPlaceClause};
+ghost use Rattle.nsc_model.specs.InPlace.{InPlaceClause, IsOdd};
 ghost use Rattle.nsc_model.specs.Kinds.{database_of};
 ghost use Rattle.nsc_model.specs.Made.{Adds, AddsByLookup, AddsByRefusedInvalidation, AddsByRefusedLookup, AddsByRefusedTick, AddsNothing, IsInvalidation};
 ghost use Rattle.nsc_model.specs.History.{IsPrefix, Legal};
@@ -206,8 +206,8 @@ pub trait Store {
     ///
     /// # Errors
     ///
-    /// No entry was inserted and none ended. At `NoMemory` a look at the files may have been entered, and the table may have grown. At the
-    /// others the history is as it was.
+    /// This call inserted no entry and ended none. At `NoMemory` it may have recorded a look at the files, and the table may have grown. At
+    /// the others it recorded nothing.
     fn lookup<R: Wait>(
         &self,
         rt: &R,
@@ -238,8 +238,8 @@ pub trait Store {
     ///
     /// # Errors
     ///
-    /// At `NoMemory` no entry was ended. At `Spent` of the versions nothing changed. At `Spent` of the invalidations only the look at the
-    /// files was entered. At `Spent` of the compactions the ended entries are not loaded again.
+    /// At `NoMemory` this call ended no entry. At `Spent` of the versions it recorded nothing. At `Spent` of the invalidations it recorded
+    /// the look at the files alone. At `Spent` of the compactions the entries that it ended are not loaded again.
     fn tick<R: Wait>(
         &self,
         rt: &R,
@@ -263,8 +263,8 @@ pub trait Store {
     ///
     /// # Errors
     ///
-    /// At `NoMemory` and at `Spent` of the invalidations no entry was ended. At `Spent` of the compactions every entry was ended, and the
-    /// invalidation is counted.
+    /// At `NoMemory` and at `Spent` of the invalidations this call ended no entry. At `Spent` of the compactions it ended every entry, and
+    /// the invalidation is counted.
     fn invalidate<R: Wait>(&self, rt: &R, pass: &mut Self::Pass) -> Result<u64, CacheFault>
         requires { is_pass self.now pass.old }
         ensures pass { is_pass self.now pass.new }
@@ -279,7 +279,7 @@ pub trait Store {
 
     /// Searches for the live entry of the request of this kind and key while others go on, and puts its reply into the buffer of 65,536
     /// bytes, which is empty at any other answer. It takes no lock, no memory and no runtime, and writes nothing. A database that is
-    /// not cached has no entries.
+    /// not cached has no entries. A pass that has seen that another table goes on in place of its own answers `Odd`.
     fn in_place(&self, pass: &mut Self::Pass, kind: Kind, key: &[u8], out: &mut Buf) -> InPlace
         requires pass { is_pass self.now pass.old }
         requires kind { database_of kind ≡ db self.now }
@@ -290,6 +290,7 @@ pub trait Store {
         ensures seen { Continues (at pass.old).seen (at pass.new).seen }
         ensures searches { (at pass.new).searches ≡ (at pass.old).searches + 1 }
         ensures answer { InPlaceClause (at pass.old).seen (at pass.new).seen (record { kind = kind; key = key.now }) (at pass.new).first (at pass.new).last out.new.content result }
+        ensures left { OnTrue (at pass.old).retired (IsOdd result) }
         ensures made { AddsNothing (at pass.old) (at pass.new) }
         ensures no_fault { StaysCalm (at pass.old) (at pass.new) };
 
@@ -304,6 +305,7 @@ pub trait Store {
         ensures seen { Continues (at pass.old).seen (at pass.new).seen }
         ensures searches { (at pass.new).searches ≡ (at pass.old).searches + 1 }
         ensures answer { InPlaceClause (at pass.old).seen (at pass.new).seen (record { kind = kind; key = key.now }) (at pass.new).first (at pass.new).last out.new.content result.answer }
+        ensures left { OnTrue (at pass.old).retired (IsOdd result.answer) }
         ensures made { AddsNothing (at pass.old) (at pass.new) }
         ensures no_fault { StaysCalm (at pass.old) (at pass.new) };
 
