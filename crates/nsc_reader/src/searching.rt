@@ -3,8 +3,8 @@ ghost use Rattle.std.specs.Prelude.{◌≡◌, ◌+◌, ◌≤◌, Some, length}
 ghost use Rattle.atomic_table.specs.Seated.{TableId};
 ghost use Rattle.nsc_model.specs.Entry.{key_limit, kept_limit};
 ghost use Rattle.nsc_model.specs.History.{IsPrefix, Legal};
-ghost use Rattle.nsc_model.specs.InPlace.{InPlaceClause};
-ghost use Rattle.nsc_reader.specs.Stages.{SaysOdd, asked};
+ghost use Rattle.nsc_model.specs.InPlace.{InPlaceClause, IsOdd};
+ghost use Rattle.nsc_reader.specs.Stages.{asked};
 
 use crate::walk::Walk;
 use nsc_base::Buf;
@@ -23,7 +23,7 @@ pub fn search(pass: &mut Pass, map: &Map, kind: Kind, key: &[u8], out: &mut Buf)
     ensures before { IsPrefix pass.old.seen pass.new.seen }
     ensures searches { pass.new.searching.searches ≡ pass.old.searching.searches + 1 }
     ensures answer { InPlaceClause pass.old.seen pass.new.seen (asked kind key.now) pass.new.searching.first pass.new.searching.last out.new.content result }
-    ensures left { (newer : TableId) → pass.old.retired ≡ Some newer → SaysOdd (Some result) }
+    ensures left { (newer : TableId) → pass.old.retired ≡ Some newer → IsOdd result }
 {
     walk_on(pass, map, kind, key, out, false).answer
 }
@@ -39,7 +39,7 @@ pub fn seek(pass: &mut Pass, map: &Map, kind: Kind, key: &[u8], out: &mut Buf) -
     ensures before { IsPrefix pass.old.seen pass.new.seen }
     ensures searches { pass.new.searching.searches ≡ pass.old.searching.searches + 1 }
     ensures answer { InPlaceClause pass.old.seen pass.new.seen (asked kind key.now) pass.new.searching.first pass.new.searching.last out.new.content result.answer }
-    ensures left { (newer : TableId) → pass.old.retired ≡ Some newer → SaysOdd (Some result.answer) }
+    ensures left { (newer : TableId) → pass.old.retired ≡ Some newer → IsOdd result.answer }
 {
     walk_on(pass, map, kind, key, out, true)
 }
@@ -55,7 +55,7 @@ fn walk_on(pass: &mut Pass, map: &Map, kind: Kind, key: &[u8], out: &mut Buf, lo
     ensures before { IsPrefix pass.old.seen pass.new.seen }
     ensures searches { pass.new.searching.searches ≡ pass.old.searching.searches + 1 }
     ensures answer { InPlaceClause pass.old.seen pass.new.seen (asked kind key.now) pass.new.searching.first pass.new.searching.last out.new.content result.answer }
-    ensures left { (newer : TableId) → pass.old.retired ≡ Some newer → SaysOdd (Some result.answer) }
+    ensures left { (newer : TableId) → pass.old.retired ≡ Some newer → IsOdd result.answer }
 {
     let mut walk = Walk::new(kind);
     if let Some(answer) = walk.step(pass, map, key, out) {
