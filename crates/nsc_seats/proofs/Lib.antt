@@ -1,3 +1,4 @@
 mod Chain
 mod Along
 pub mod Crossing
+mod Retired

@@ -1,5 +1,5 @@
 -- A caller's seats: one at each table from the first one to the one that it has come to, where it is present.
-use Rattle.std.specs.Prelude.{◌≡◌, ℕ, ◌+◌, ◌⊎◌, All, List, [], ◌∷◌, ◌++◌, length, map, sum_by, slice_index_or, Some}
+use Rattle.std.specs.Prelude.{◌≡◌, ℕ, ◌+◌, ◌⊎◌, All, List, [], ◌∷◌, ◌++◌, length, map, sum_by, slice_index_or, Option, Some}
 use Rattle.atomic_table.specs.Seated.{TableId}
 use Rattle.nsc_model.specs.declared.record.Record.{Record}
 use Rattle.nsc_model.specs.History.{IsPrefix}
@@ -8,13 +8,14 @@ use Rattle.nsc_rule.specs.Pass.{Pass}
 use Rattle.nsc_writer.specs.Former.{Former}
 use Rattle.nsc_seats.specs.Tables.{tables}
 
--- the first table, and how many follow it up to the present one; what was seen of the history; and the search at the present table, with
--- the number of those at all of them
+-- the first table, and how many follow it up to the present one; what was seen of the history; which table was seen to go on in place of
+-- the present one; and the search at the present table, with the number of those at all of them
 pub record Seats : Type 0 where
   pub table : TableId
   pub number : ℕ
   pub present : TableId
   pub seen : List Record
+  pub retired : Option TableId
   pub searching : Search
 
 -- the tables at which these passes are, and then the present one
@@ -35,6 +36,7 @@ seats_of former present = record {
   number = length former;
   present = present.table;
   seen = present.seen;
+  retired = present.retired;
   searching = record present.searching { searches = searches_of former + present.searching.searches };
 }
 

@@ -1,9 +1,11 @@
 // A caller's seat at one table.
 ghost use Rattle.std.specs.Prelude.{◌≡◌, ◌+◌, ◌⊎◌, ◌≤◌, All, IfOk, OnErr, None, Some, IsSome, length};
+ghost use Rattle.std.specs.Bool.{OnTrue};
+ghost use Rattle.std.specs.Option.{is_some};
 ghost use Rattle.atomic_table.specs.Seated.{TableId};
 ghost use Rattle.nsc_model.specs.Entry.{key_limit, kept_limit};
 ghost use Rattle.nsc_model.specs.History.{IsFit, IsPrefix, Legal};
-ghost use Rattle.nsc_model.specs.InPlace.{InPlaceClause};
+ghost use Rattle.nsc_model.specs.InPlace.{InPlaceClause, IsOdd};
 ghost use Rattle.nsc_model.specs.Machine.{last_count};
 ghost use Rattle.nsc_rule.specs.Seats.{AreOne, informed};
 
@@ -136,6 +138,7 @@ impl Seat {
         ensures before { IsPrefix self.old.seen self.new.seen }
         ensures searches { self.new.searching.searches ≡ self.old.searching.searches + 1 }
         ensures answer { InPlaceClause self.old.seen self.new.seen (record { kind = kind; key = key.now }) self.new.searching.first self.new.searching.last out.new.content result }
+        ensures left { OnTrue (is_some self.old.retired) (IsOdd result) }
     {
         search(&mut self.pass, &self.map, kind, key, out)
     }
@@ -150,6 +153,7 @@ impl Seat {
         ensures before { IsPrefix self.old.seen self.new.seen }
         ensures searches { self.new.searching.searches ≡ self.old.searching.searches + 1 }
         ensures answer { InPlaceClause self.old.seen self.new.seen (record { kind = kind; key = key.now }) self.new.searching.first self.new.searching.last out.new.content result.answer }
+        ensures left { OnTrue (is_some self.old.retired) (IsOdd result.answer) }
     {
         seek(&mut self.pass, &self.map, kind, key, out)
     }

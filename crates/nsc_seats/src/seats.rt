@@ -1,8 +1,10 @@
 // `Seats`: a caller's handles at all tables, from the first to the present table.
 ghost use Rattle.std.specs.Prelude.{◌≡◌, ◌+◌, ◌<◌, ◌≤◌, All, IfOk, OnOk, OnErr, None, Some, length, slice_index_or};
+ghost use Rattle.std.specs.Bool.{OnTrue};
+ghost use Rattle.std.specs.Option.{is_some};
 ghost use Rattle.nsc_model.specs.Entry.{key_limit, kept_limit};
 ghost use Rattle.nsc_model.specs.History.{IsFit, IsPrefix, Legal};
-ghost use Rattle.nsc_model.specs.InPlace.{InPlaceClause};
+ghost use Rattle.nsc_model.specs.InPlace.{InPlaceClause, IsOdd};
 ghost use Rattle.nsc_model.specs.Machine.{last_count};
 ghost use Rattle.nsc_rule.specs.Seats.{informed};
 ghost use Rattle.atomic_table.specs.Seated.{TableId};
@@ -44,7 +46,7 @@ impl Seats {
     /// A seat at the first table. Fails only for want of memory.
     pub fn new(alloc: Global, map: Map, pass: Pass) -> Result<Seats, NoMemory>
         requires { map.table ≡ pass.table }
-        ensures { IfOk result (λ seats. seats ≡ record { table = pass.table; number = 0; present = pass.table; seen = pass.seen; searching = pass.searching }) }
+        ensures { IfOk result (λ seats. seats ≡ record { table = pass.table; number = 0; present = pass.table; seen = pass.seen; retired = pass.retired; searching = pass.searching }) }
     {
         Ok(Seats {
             former: Vec::with_capacity(alloc, GROWTHS)?,
@@ -97,7 +99,7 @@ impl Seats {
         requires present { self.old.present ≡ writer.old.table }
         requires still { writer.old.slide ≡ None }
         ensures writer { writer.new ≡ writer.old }
-        ensures seats { self.new ≡ record self.old { seen = writer.old.seen; searching = informed self.old.searching writer.old.cache.cycle } }
+        ensures seats { self.new ≡ record self.old { seen = writer.old.seen; retired = None; searching = informed self.old.searching writer.old.cache.cycle } }
         ensures before { IsPrefix self.old.seen writer.old.seen }
     {
         self.present.show(writer);
@@ -142,6 +144,7 @@ impl Seats {
         ensures before { IsPrefix self.old.seen self.new.seen }
         ensures searches { self.new.searching.searches ≡ self.old.searching.searches + 1 }
         ensures answer { InPlaceClause self.old.seen self.new.seen (record { kind = kind; key = key.now }) self.new.searching.first self.new.searching.last out.new.content result }
+        ensures left { OnTrue (is_some self.old.retired) (IsOdd result) }
     {
         self.present.search(kind, key, out)
     }
@@ -156,6 +159,7 @@ impl Seats {
         ensures before { IsPrefix self.old.seen self.new.seen }
         ensures searches { self.new.searching.searches ≡ self.old.searching.searches + 1 }
         ensures answer { InPlaceClause self.old.seen self.new.seen (record { kind = kind; key = key.now }) self.new.searching.first self.new.searching.last out.new.content result.answer }
+        ensures left { OnTrue (is_some self.old.retired) (IsOdd result.answer) }
     {
         self.present.seek(kind, key, out)
     }
