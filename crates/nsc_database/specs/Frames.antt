@@ -1,5 +1,9 @@
 -- What a call leaves of a pass.
-use Rattle.std.specs.Prelude.{◌≡◌, ◌≤◌, All}
+use Rattle.std.specs.Prelude.{◌≡◌, ◌≤◌, ℕ, All, List}
+use Rattle.std.specs.Option.{is_some}
+use Rattle.nsc_model.specs.declared.answer.Request.{Request}
+use Rattle.nsc_model.specs.declared.in_place.InPlace.{InPlace}
+use Rattle.nsc_model.specs.InPlace.{InPlaceClause}
 use Rattle.nsc_model.specs.History.{IsFit, IsPrefix, Legal}
 use Rattle.nsc_model.specs.Stores.{FoundLastCycle, PassAt}
 use Rattle.nsc_outside.specs.declared.files.FileSet as file_set
@@ -27,6 +31,10 @@ pub record Held {F B : Type 0} {G : file_set.Ghosts F} {R : room.Ghosts B} (p p'
 abbrev pub LoadedLastCycle : {F B : Type 0} {G : file_set.Ghosts F} {R : room.Ghosts B} → DbPass F B G R → DbPass F B G R → Type 0
 LoadedLastCycle p p' = FoundLastCycle p.pass.searching.searches p'.pass.searching.searches p'.pass.searching.last
 
+-- what a search without a lock gives it: the answer, and the bytes that the buffer then holds
+abbrev pub AnswersInPlace : {F B : Type 0} {G : file_set.Ghosts F} {R : room.Ghosts B} → DbPass F B G R → DbPass F B G R → Request → List ℕ → InPlace → Type 0
+AnswersInPlace p p' request bytes answer = InPlaceClause p.pass.seen p'.pass.seen request p'.pass.searching.first p'.pass.searching.last bytes answer
+
 -- what the trait of stores tells of it
 abbrev pub pass_at : {F B : Type 0} {G : file_set.Ghosts F} {R : room.Ghosts B} → DbPass F B G R → PassAt
 pass_at {F} {B} {G} {R} p = record {
@@ -40,4 +48,5 @@ pass_at {F} {B} {G} {R} p = record {
   first = p.pass.searching.first;
   last = p.pass.searching.last;
   words = p.pass.present.words;
+  retired = is_some p.pass.retired;
 }

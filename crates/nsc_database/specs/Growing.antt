@@ -25,7 +25,9 @@ pub record GoesOver (settings : DbConf) (need : ℕ) (before after : Desk) : Typ
 -- short, and nothing changed
 abbrev pub IsGrowth : {A : Type 0} → DbConf → ℕ → Desk → Desk → Result Bool A → Type 0
 IsGrowth settings need before after (Ok true) = GoesOver settings need before after
-IsGrowth settings need before after (Ok false) = (after ≡ before) × IsArena settings before.writer.table.words before.writer.layout.arena × (IsAboveAll settings (before.writer.cache.used + need) ⊎ (last_count ≤ before.writer.cache.cycle))
+IsGrowth settings need before after (Ok false) =
+    (after ≡ before) × IsArena settings before.writer.table.words before.writer.layout.arena ×
+    (IsAboveAll settings (before.writer.cache.used + need) ⊎ (last_count ≤ before.writer.cache.cycle))
 IsGrowth settings need before after (Err fault) = after ≡ before
 
 -- one table was left, after an insertion that found no room in it and was counted

@@ -72,7 +72,8 @@ IsInserted arena last_cycle said loaded seen after = IsInsertedOr (FindsNoRoom a
 
 -- and of one that was tried once more where the table could become large enough, which has `words` words then
 abbrev pub IsKept : DbConf → ℕ → Type 0 → Inserted → Loaded → List Record → List Record → Type 0
-IsKept settings words last_cycle said loaded seen after = IsInsertedOr (IsFull settings words after last_cycle loaded.request loaded.answer.bytes) said loaded seen after
+IsKept settings words last_cycle said loaded seen after =
+    IsInsertedOr (IsFull settings words after last_cycle loaded.request loaded.answer.bytes) said loaded seen after
 
 -- how many words an insertion needs that found no room
 abbrev pub needed_by : Inserted → Option ℕ
@@ -90,4 +91,5 @@ LeavesFull (inserted.TooLarge size) before after = Unit {0}
 LeavesFull (inserted.Discarded noted epoch) before after = Unit {0}
 LeavesFull (inserted.Present number) before after = Unit {0}
 LeavesFull (inserted.Spent count) before after = Unit {0}
-LeavesFull (inserted.Full need free) before after = (after.seen ≡ before.seen) × (free + after.cache.used ≡ after.layout.arena) × (after.cache.add_failed ≡ next_count before.cache.add_failed)
+LeavesFull (inserted.Full need free) before after =
+    (after.seen ≡ before.seen) × (free + after.cache.used ≡ after.layout.arena) × (after.cache.add_failed ≡ next_count before.cache.add_failed)

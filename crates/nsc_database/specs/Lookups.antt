@@ -24,7 +24,8 @@ use Rattle.nsc_database.specs.Rests.{IsLoadedOf}
 -- a look for a live entry of the request, where the database is cached; where it is not, none is found, and the count of invalidations that is told is 0
 abbrev pub IsFoundIfCached : DbConf → HitOrMiss → List Record → Request → List ℕ → Type 0
 IsFoundIfCached settings (looked.Hit hit) after request reply = (settings.enabled ≡ true) × IsHit after request reply hit.number
-IsFoundIfCached settings (looked.Missed epoch) after request reply = ((settings.enabled ≡ false) × (epoch ≡ 0)) ⊎ ((epoch ≡ invalidations after) × NoneLiveOf after request)
+IsFoundIfCached settings (looked.Missed epoch) after request reply =
+    ((settings.enabled ≡ false) × (epoch ≡ 0)) ⊎ ((epoch ≡ invalidations after) × NoneLiveOf after request)
 
 -- what answers over a polled content have in common, that are made at this moment
 abbrev pub answering_over : DbConf → Polled → ℕ → Answering

@@ -45,11 +45,13 @@ brought_in entries request = sum_by (λ k. if is_request request k.entry.request
 -- the reloads of these entries are those that an image brings back over this content; they are 0 if no image brings any
 abbrev pub BringsReloads : DbConf → ℕ → Db → Option (List ℕ) → Content → List Kept → Type 0
 BringsReloads settings now which image files kept =
-    ((entries : List Saved) × BringsBack settings which image entries × (brought_in kept ≡ brought_in (restored (room_of settings) settings now files entries (new_cache files)).cache.entries))
+    ((entries : List Saved) × BringsBack settings which image entries ×
+    (brought_in kept ≡ brought_in (restored (room_of settings) settings now files entries (new_cache files)).cache.entries))
     ⊎ (BringsNone settings which image × (brought_in kept ≡ none_brought))
 
 -- a history that begins with this content as version 0: behind it stand the insertions of what an image brings back, and nothing else
 abbrev pub Begins : DbConf → ℕ → Db → Option (List ℕ) → Content → List Record → Type 0
 Begins settings now which image files history =
-    ((entries : List Saved) × BringsBack settings which image entries × (history ≡ (restored (room_of settings) settings now files entries (new_cache files)).adds ++ Change 0 files ∷ []))
+    ((entries : List Saved) × BringsBack settings which image entries ×
+    (history ≡ (restored (room_of settings) settings now files entries (new_cache files)).adds ++ Change 0 files ∷ []))
     ⊎ (BringsNone settings which image × (history ≡ Change 0 files ∷ []))

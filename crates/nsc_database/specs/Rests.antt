@@ -62,7 +62,9 @@ pub record IsFirstLoad (which : Db) (seen : List Record) (l : Loaded) : Type 0 w
 
 -- what holds of a writer, and of the tables that it left, while its lock is free
 abbrev pub IsAtRest : DbConf → (Request → ℕ) → Option ℕ → Option Content → Db → ℕ → List Former → Writer → Type 0
-IsAtRest settings brought limit held which ticked left w = Keeps settings brought limit ticked w × IsPacked w × StaysStill held which w.cache × LoadsAgain (room_of settings) w.cache.cycle w.seen × (w.slide ≡ None) × IsSized settings w.layout × All (WasSteady held which) left × InsertsOwn which w.seen
+IsAtRest settings brought limit held which ticked left w =
+    Keeps settings brought limit ticked w × IsPacked w × StaysStill held which w.cache × LoadsAgain (room_of settings) w.cache.cycle w.seen ×
+    (w.slide ≡ None) × IsSized settings w.layout × All (WasSteady held which) left × InsertsOwn which w.seen
 
 -- a writer of an empty cache over this content as its first version, in the first table of these settings, with no slide under way
 pub record IsNew (w : Writer) (content : Content) (settings : DbConf) : Type 0 where

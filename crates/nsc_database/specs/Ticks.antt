@@ -96,7 +96,9 @@ IsPending (d ∷ due) request = ((d.ended ≡ true) × (d.dropped ≡ false) × 
 
 -- of each entry that ended to be loaded again this is known, or its request is one of these
 abbrev pub AreLoadedBut : ℕ → (Request → Type 0) → List Record → Type 0
-AreLoadedBut arena those history = (number : ℕ) (before : List Record) (e : Entry) → IsPrefix (End number Replaced ∷ before) history → load_of before number ≡ Some e → IsLoadedAgain arena (End number Replaced ∷ before) e.request history ⊎ those e.request
+AreLoadedBut arena those history =
+    (number : ℕ) (before : List Record) (e : Entry) → IsPrefix (End number Replaced ∷ before) history → load_of before number ≡ Some e →
+    IsLoadedAgain arena (End number Replaced ∷ before) e.request history ⊎ those e.request
 
 -- and that, unless there are no more compactions, by the count of their beginnings and ends
 abbrev pub LoadsBut : ℕ → ℕ → (Request → Type 0) → List Record → Type 0

@@ -1,5 +1,6 @@
 // `Database`: one database as a store that many threads call.
 ghost use Rattle.std.specs.Prelude.{◌≡◌};
+ghost use Rattle.nsc_database.specs.Frames.{pass_at};
 
 use crate::base::Base;
 use crate::pass::DbPass;
@@ -49,7 +50,7 @@ impl<F: FileSet + Drop, A: Answerer + Drop, B: Room> Store for Database<F, A, B>
 
     ghost is_pass = { λ d p. p.db ≡ d.db };
 
-    ghost at = { λ p. record { seen = p.pass.seen; made = p.made; faults = F.faults p.files; file_faults = F.file_faults p.files; reads = F.reads p.files; latest = F.latest p.files; searches = p.pass.searching.searches; first = p.pass.searching.first; last = p.pass.searching.last; words = p.pass.present.words } };
+    ghost at = { λ p. pass_at p };
 
     ghost held = { λ d. B.held };
 

@@ -4,9 +4,9 @@ ghost use Rattle.nsc_model.specs.Answers.{answer_of};
 ghost use Rattle.nsc_model.specs.Entry.{key_limit};
 ghost use Rattle.nsc_model.specs.Kinds.{database_of};
 ghost use Rattle.nsc_model.specs.Made.{AddsByLookup, AddsByRefusedLookup};
-ghost use Rattle.nsc_model.specs.Stores.{GivesAnswer, GivesUp, IsOfFiles};
+ghost use Rattle.nsc_model.specs.Stores.{GivesAnswerAt, GivesUpAt, IsOfFilesAt};
 ghost use Rattle.nsc_sourcebook.specs.Reads.{NoneFailed};
-ghost use Rattle.nsc_database.specs.Frames.{Goes, Held, LoadedLastCycle, pass_at};
+ghost use Rattle.nsc_database.specs.Frames.{Goes, Held, pass_at};
 ghost use Rattle.nsc_database.specs.Lookups.{IsFoundIfCached};
 ghost use Rattle.nsc_model.specs.Steady.{IsSteady};
 
@@ -38,9 +38,9 @@ impl<D: OfDb, F: FileSet + Drop, A: Answerer + Drop, B: Room> Base<D, F, A, B> {
         requires moment { now < 2 ^ 62 }
         ensures frame { Goes pass.old pass.new }
         ensures steady { IsSteady B.held D.db pass.new.pass.seen }
-        ensures answer { IfOk result (GivesAnswer self.now.settings pass.new.pass.present.words now pass.old.pass.seen pass.new.pass.seen (LoadedLastCycle pass.old pass.new) (record { kind = kind; key = key.now })) }
-        ensures files { IfOk result (IsOfFiles D.db (F.reads pass.old.files) (F.reads pass.new.files) (F.latest pass.new.files) B.held (record { kind = kind; key = key.now })) }
-        ensures fault { IfErr result (GivesUp self.now.settings pass.old.pass.seen pass.new.pass.seen (record { kind = kind; key = key.now }) (F.faults pass.old.files) (F.faults pass.new.files) (F.file_faults pass.old.files) (F.file_faults pass.new.files)) }
+        ensures answer { IfOk result (GivesAnswerAt self.now.settings now (pass_at pass.old) (pass_at pass.new) (record { kind = kind; key = key.now })) }
+        ensures files { IfOk result (IsOfFilesAt D.db B.held (pass_at pass.old) (pass_at pass.new) (record { kind = kind; key = key.now })) }
+        ensures fault { IfErr result (GivesUpAt self.now.settings (pass_at pass.old) (pass_at pass.new) (record { kind = kind; key = key.now })) }
         ensures no_fault { OnOk result (NoneFailed F.FileSet pass.old.files pass.new.files) }
         ensures made { IfOk result (AddsByLookup self.now.settings (record { kind = kind; key = key.now }) (pass_at pass.old) (pass_at pass.new)) }
         ensures refused { IfErr result (AddsByRefusedLookup (pass_at pass.old) (pass_at pass.new)) }

@@ -1,8 +1,10 @@
 // `DbPass`: a caller's pass: reader's handles at the tables, a file set, a reply buffer.
 ghost use Rattle.std.specs.Prelude.{◌≡◌, ◌+◌, ◌++◌, ◌≤◌, All, length};
+ghost use Rattle.std.specs.Bool.{OnTrue};
+ghost use Rattle.std.specs.Option.{is_some};
 ghost use Rattle.nsc_model.specs.Entry.{key_limit, kept_limit};
 ghost use Rattle.nsc_model.specs.History.{IsFit, IsPrefix, Legal};
-ghost use Rattle.nsc_model.specs.InPlace.{InPlaceClause};
+ghost use Rattle.nsc_model.specs.InPlace.{IsOdd};
 ghost use Rattle.nsc_model.specs.Machine.{last_count};
 ghost use Rattle.nsc_model.specs.Stores.{Continues};
 
@@ -30,7 +32,7 @@ pub struct DbPass<F: FileSet + Drop, B: Room> {
 }
 
 impl<F: FileSet + Drop, B: Room> DbPass<F, B> {
-    ghost use Rattle.nsc_database.specs.Frames.{Held};
+    ghost use Rattle.nsc_database.specs.Frames.{AnswersInPlace, Held};
 
     /// What it has seen is legal, and the files of its versions are within their limits.
     pub fn learn(&self)
@@ -51,7 +53,8 @@ impl<F: FileSet + Drop, B: Room> DbPass<F, B> {
         ensures limit { out.new.limit ≡ out.old.limit }
         ensures seen { Continues self.old.pass.seen self.new.pass.seen }
         ensures searches { self.new.pass.searching.searches ≡ self.old.pass.searching.searches + 1 }
-        ensures answer { InPlaceClause self.old.pass.seen self.new.pass.seen (record { kind = kind; key = key.now }) self.new.pass.searching.first self.new.pass.searching.last out.new.content result }
+        ensures answer { AnswersInPlace self.old self.new (record { kind = kind; key = key.now }) out.new.content result }
+        ensures left { OnTrue (is_some self.old.pass.retired) (IsOdd result) }
     {
         let answer = self.pass.search(kind, key, out);
         self.pass.learn();
@@ -68,7 +71,8 @@ impl<F: FileSet + Drop, B: Room> DbPass<F, B> {
         ensures limit { out.new.limit ≡ out.old.limit }
         ensures seen { Continues self.old.pass.seen self.new.pass.seen }
         ensures searches { self.new.pass.searching.searches ≡ self.old.pass.searching.searches + 1 }
-        ensures answer { InPlaceClause self.old.pass.seen self.new.pass.seen (record { kind = kind; key = key.now }) self.new.pass.searching.first self.new.pass.searching.last out.new.content result.answer }
+        ensures answer { AnswersInPlace self.old self.new (record { kind = kind; key = key.now }) out.new.content result.answer }
+        ensures left { OnTrue (is_some self.old.pass.retired) (IsOdd result.answer) }
     {
         let sought = self.pass.seek(kind, key, out);
         self.pass.learn();

@@ -5,7 +5,7 @@ ghost use Rattle.nsc_model.specs.History.{NoneLive, invalidations};
 ghost use Rattle.nsc_model.specs.Reloads.{Reloaded};
 ghost use Rattle.nsc_model.specs.Machine.{room_of};
 ghost use Rattle.nsc_model.specs.Made.{Adds, AddsByRefusedTick};
-ghost use Rattle.nsc_model.specs.Stores.{AreLoadedAgain, IsTickFault};
+ghost use Rattle.nsc_model.specs.Stores.{AreLoadedAgain, IsTickFaultAt};
 ghost use Rattle.nsc_sourcebook.specs.Reads.{NoneFailed};
 ghost use Rattle.nsc_database.specs.Frames.{Goes, Held, LoadedLastCycle, pass_at};
 ghost use Rattle.nsc_database.specs.Holds.{IsPolledVersion};
@@ -43,7 +43,7 @@ impl<D: OfDb, F: FileSet + Drop, A: Answerer + Drop, B: Room> Base<D, F, A, B> {
         ensures steady { OnTrue self.now.settings.enabled (IsSteady B.held D.db pass.new.pass.seen) }
         ensures ticked { OnOk result (IsTickedIfCached D.db self.now.settings (B.brought D.db) self.now.reloads now (pass_at pass.old) (pass_at pass.new)) }
         ensures uncached { OnFalse self.now.settings.enabled (IsOk result × (pass.new ≡ pass.old)) }
-        ensures fault { IfErr result (λ fault. IsTickFault fault self.now.settings now pass.old.pass.seen pass.new.pass.seen (LoadedLastCycle pass.old pass.new) (F.faults pass.old.files) (F.faults pass.new.files) (F.file_faults pass.old.files) (F.file_faults pass.new.files)) }
+        ensures fault { IfErr result (IsTickFaultAt self.now.settings now (pass_at pass.old) (pass_at pass.new)) }
         ensures no_fault { OnOk result (NoneFailed F.FileSet pass.old.files pass.new.files) }
         ensures refused { IfErr result (AddsByRefusedTick (pass_at pass.old) (pass_at pass.new)) }
     {
