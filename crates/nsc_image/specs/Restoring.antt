@@ -49,4 +49,5 @@ restored_by settings now files entries w = passed_by (restored w.layout.arena se
 
 -- a front of the entries is back, and nothing of the others
 abbrev pub RestoresFront : DbConf → ℕ → Content → List Saved → Writer → Writer → Type 0
-RestoresFront settings now files entries before after = (front : List Saved) × (others : List Saved) × (entries ≡ front ++ others) × (after ≡ restored_by settings now files front before)
+RestoresFront settings now files entries before after =
+    (front : List Saved) × (others : List Saved) × (entries ≡ front ++ others) × (after ≡ restored_by settings now files front before)

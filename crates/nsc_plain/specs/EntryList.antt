@@ -69,7 +69,8 @@ is_made (Some cause) = false
 
 -- the cache once its insertion was tried
 abbrev pub put : DbConf → ℕ → ℕ → Insertion → Cache → Cache
-put settings now version answered cache = (tried_by (refused_in settings now version answered cache) (inserted_entry settings now version answered cache) cache).cache
+put settings now version answered cache =
+    (tried_by (refused_in settings now version answered cache) (inserted_entry settings now version answered cache) cache).cache
 
 -- what goes beside an answered request is tried, if that one was inserted and something goes beside it
 abbrev pub put_beside : Bool → Option Insertion → DbConf → ℕ → ℕ → Cache → Cache

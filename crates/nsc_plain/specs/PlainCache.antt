@@ -23,14 +23,16 @@ HitsBy (Some k) request before after hit = (hit ≡ Some k.entry.answer.bytes) �
 
 -- over each cache with these entries: the entry that answers the request is used, if there is one
 abbrev pub HitsIn : Request → EntryList → EntryList → Option (List ℕ) → Type 0
-HitsIn request before after hit = (cache : Cache) → HitsBy (find (λ k. is_request request k.entry.request) before.entries) request (over cache before) (over cache after) hit
+HitsIn request before after hit =
+    (cache : Cache) → HitsBy (find (λ k. is_request request k.entry.request) before.entries) request (over cache before) (over cache after) hit
 
 -- a lookup, and a tick, at this moment over these files gives up with this fault
 abbrev pub LookupFails : PlainCache → PlainCache → ℕ → Content → Request → CacheFault → Type 0
 LookupFails before after now files request fault = FaultsBy (lookup before.settings now files request before.cache) files before.cache after.cache fault
 
 abbrev pub TickFails : PlainCache → PlainCache → ℕ → Content → CacheFault → Type 0
-TickFails before after now files fault = FaultsBy (tick before.settings before.reloads now files before.ticked before.cache) files before.cache after.cache fault
+TickFails before after now files fault =
+    FaultsBy (tick before.settings before.reloads now files before.ticked before.cache) files before.cache after.cache fault
 
 -- the version that a tick keeps which gave up: if memory was short, that of the last tick
 abbrev pub ticked_at : CacheFault → ℕ → ℕ → ℕ

@@ -28,7 +28,8 @@ pub record AllButLast (settings : Conf) (s : State) (place : ℕ) (front out : L
 -- first E, whatever follows it, and at ReadFault, WriteFault and NoMemory what was written is the output for the whole frames
 -- that were read, a front of it, or it but for that of the last frame.
 abbrev pub EndsBy : Exit → Conf → State → ℕ → Option (List ℕ) → List ℕ → List ℕ → Type 0
-EndsBy exits.Ok settings s place left front out = (more : List ℕ) → replay_from settings s place (front ++ more) ≡ record { output = out; finish = Done (place + length front) }
+EndsBy exits.Ok settings s place left front out =
+    (more : List ℕ) → replay_from settings s place (front ++ more) ≡ record { output = out; finish = Done (place + length front) }
 EndsBy exits.ReadFault settings s place left front out = out ≡ (replay_from settings s place front).output
 EndsBy exits.WriteFault settings s place left front out = (rest : List ℕ) × ((replay_from settings s place front).output ≡ out ++ rest)
 EndsBy (exits.BadFrame offset) settings s place left front out = FinishesBy (Bad offset) settings s place left front out

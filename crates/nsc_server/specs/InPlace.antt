@@ -75,7 +75,8 @@ ServesInPlace scopes bytes before after (Found which not_found) =
     (reply : List ℕ) × IsHit scopes bytes before.passes after.passes which not_found reply × IsWritten before.output after.output reply
 ServesInPlace scopes bytes before after (Not stale) = (after.output ≡ before.output) × TellsStale before.passes after.passes stale
 ServesInPlace scopes bytes before after Broken =
-    (which : Db) × (not_found : Bool) × (reply : List ℕ) × IsHit scopes bytes before.passes after.passes which not_found reply × IsBroken before.output after.output reply
+    (which : Db) × (not_found : Bool) × (reply : List ℕ) × IsHit scopes bytes before.passes after.passes which not_found reply ×
+    IsBroken before.output after.output reply
 
 -- what came of an offer of a hit's reply
 abbrev pub TakesReply : StreamAt → StreamAt → List ℕ → Db → Bool → ServedInPlace → Type 0

@@ -62,7 +62,8 @@ pub record IsLookReply (settings : DbConf) (moment : ℕ) (request : Request) (b
 
 -- a database was emptied, or none has the name
 abbrev pub IsInvalidateReply : Option Db → Databases PassAt → Databases PassAt → List ℕ → Type 0
-IsInvalidateReply (Some which) before after reply = (reply ≡ done) × Legal (database_in after which).seen × (epoch : ℕ) × IsEmptied (database_in before which).seen (database_in after which).seen epoch
+IsInvalidateReply (Some which) before after reply =
+    (reply ≡ done) × Legal (database_in after which).seen × (epoch : ℕ) × IsEmptied (database_in before which).seen (database_in after which).seen epoch
 IsInvalidateReply None before after reply = (reply ≡ no_database) × (after ≡ before)
 
 -- the counts are those of a database of these settings, as the pass has seen it
@@ -89,7 +90,8 @@ IsStatReply settings after reply = (stats : List Stats) × AreCounts settings af
 
 -- the reply to what was asked, where the passes were so at entry and are so at exit
 abbrev pub IsReply : Databases DbConf → ℕ → Asked → Databases PassAt → Databases PassAt → List ℕ → Type 0
-IsReply settings moment (Look request) before after reply = IsLookReply (database_in settings (database_of request.kind)) moment request (database_in before (database_of request.kind)) (database_in after (database_of request.kind)) reply
+IsReply settings moment (Look request) before after reply =
+    IsLookReply (database_in settings (database_of request.kind)) moment request (database_in before (database_of request.kind)) (database_in after (database_of request.kind)) reply
 IsReply settings moment Shutdown before after reply = (reply ≡ done) × (after ≡ before)
 IsReply settings moment Stat before after reply = IsStatReply settings after reply
 IsReply settings moment (Invalidate name) before after reply = IsInvalidateReply (db_named name) before after reply
@@ -104,11 +106,13 @@ pub record IsLookFault (settings : DbConf) (request : Request) (before after : P
 
 abbrev pub IsInvalidateRefusal : Option Db → Databases PassAt → Databases PassAt → Served → Type 0
 IsInvalidateRefusal (Some which) before after by =
-    (f : CacheFault) × (by ≡ served_after f) × Legal (database_in after which).seen × IsInvalidateFault f (database_in after which).seen (LoadedLastCycle (database_in before which) (database_in after which))
+    (f : CacheFault) × (by ≡ served_after f) × Legal (database_in after which).seen ×
+    IsInvalidateFault f (database_in after which).seen (LoadedLastCycle (database_in before which) (database_in after which))
 IsInvalidateRefusal None before after by = ⊥
 
 abbrev pub IsRefusal : Databases DbConf → Asked → Databases PassAt → Databases PassAt → Served → Type 0
-IsRefusal settings (Look request) before after by = IsLookFault (database_in settings (database_of request.kind)) request (database_in before (database_of request.kind)) (database_in after (database_of request.kind)) by
+IsRefusal settings (Look request) before after by =
+    IsLookFault (database_in settings (database_of request.kind)) request (database_in before (database_of request.kind)) (database_in after (database_of request.kind)) by
 IsRefusal settings Stat before after by = by ≡ served.NoMemory
 IsRefusal settings (Invalidate name) before after by = IsInvalidateRefusal (db_named name) before after by
 IsRefusal settings _ before after by = ⊥
@@ -187,10 +191,12 @@ Answers settings scopes moment asked before after served.NoMemory = HasNoReply s
 abbrev pub Ends : Databases DbConf → Scopes → ℕ → Role → Asked → Option (List ℕ) → Side → Side → Served → Type 0
 Ends settings scopes moment on asked left before after (served.Closed why) =
     ((closing_of scopes on asked ≡ Some why) × (after ≡ before))
-    ⊎ ((closing_of scopes on asked ≡ None) × OthersStay asked before.passes after.passes × Answers settings scopes moment asked before after (served.Closed why))
+    ⊎ ((closing_of scopes on asked ≡ None) × OthersStay asked before.passes after.passes ×
+    Answers settings scopes moment asked before after (served.Closed why))
 Ends settings scopes moment on asked left before after (served.Ended have) = (asked ≡ Short have) × IsDrained left × (after ≡ before)
 Ends settings scopes moment on asked left before after served.ReadFault = ((have : ℕ) × (asked ≡ Short have)) × (after ≡ before)
-Ends settings scopes moment on asked left before after by = (closing_of scopes on asked ≡ None) × OthersStay asked before.passes after.passes × Answers settings scopes moment asked before after by
+Ends settings scopes moment on asked left before after by =
+    (closing_of scopes on asked ≡ None) × OthersStay asked before.passes after.passes × Answers settings scopes moment asked before after by
 
 -- the input's count of faults rose where it failed, and else stays
 abbrev pub CountsInput : Served → ℕ → ℕ → Type 0

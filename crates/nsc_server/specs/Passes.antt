@@ -25,7 +25,8 @@ pub record ArePasses {S P : Type 0} (g : store.Ghosts S P) (stores : Databases S
 
 -- the settings of each store
 abbrev pub settings_of : {S P : Type 0} → store.Ghosts S P → Databases S → Databases DbConf
-settings_of g stores = record { passwd = g.settings stores.passwd; group = g.settings stores.group; hosts = g.settings stores.hosts; services = g.settings stores.services }
+settings_of g stores =
+    record { passwd = g.settings stores.passwd; group = g.settings stores.group; hosts = g.settings stores.hosts; services = g.settings stores.services }
 
 -- each pass at a moment
 abbrev pub passes_at : {S P : Type 0} → store.Ghosts S P → Databases P → Databases PassAt

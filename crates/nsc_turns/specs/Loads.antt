@@ -10,7 +10,8 @@ use Rattle.nsc_turns.specs.declared.answering.Answering.{Answering}
 
 -- the answer to a request over these files
 abbrev pub loaded_of : Answering → Content → Request → ℕ → Loaded
-loaded_of a files request reloads = record { request = request; answer = answer_of files request; stamp = a.stamp; timeout = a.moment + life_of a.settings (answer_of files request); reloads = reloads }
+loaded_of a files request reloads =
+    record { request = request; answer = answer_of files request; stamp = a.stamp; timeout = a.moment + life_of a.settings (answer_of files request); reloads = reloads }
 
 -- what is to be inserted beside the answer to a request by name: the answer to the id request, if `auto-propagate` is on (nscd.conf(5))
 abbrev pub loaded_id : Answering → Content → Option Request → Option Loaded

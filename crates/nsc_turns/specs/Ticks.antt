@@ -16,7 +16,8 @@ use Rattle.nsc_turns.specs.Turns.{Completes, Stops}
 -- where the newest version is outdated every entry ends, and else it is said which are due
 abbrev pub Checks : Bool → Option ℕ → ℕ → Writer → Writer → Result Checked CacheFault → Type 0
 Checks outdated limit now before after (Ok checked.Emptied) = (outdated ≡ true) × Completes (invalidated before.cache) before after
-Checks outdated limit now before after (Ok (checked.Listed due)) = (outdated ≡ false) × (due.items ≡ map (due_from limit) (due_of now before.cache.entries)) × (after ≡ before)
+Checks outdated limit now before after (Ok (checked.Listed due)) =
+    (outdated ≡ false) × (due.items ≡ map (due_from limit) (due_of now before.cache.entries)) × (after ≡ before)
 Checks outdated limit now before after (Err fault.NoMemory) = (outdated ≡ false) × (after ≡ before)
 Checks outdated limit now before after (Err (fault.Spent count)) = (outdated ≡ true) × Stops (invalidated before.cache) count before after
 
@@ -36,7 +37,9 @@ swept_by now due w = compacted_for (ended_of (marked_by now due w)) (pruned_by n
 -- one of them that was ended is loaded again, if it is to be; the writer's history tells its cache
 abbrev pub ReloadsOne : Due → Option Loaded → Writer → Writer → Type 0
 ReloadsOne d None before after = after ≡ before
-ReloadsOne d (Some l) before after = OnTrue d.ended ((said : Inserted) × Inserts said l before after × IsRefused said l before × Tells before.seen before.cache) × OnFalse d.ended (after ≡ before)
+ReloadsOne d (Some l) before after =
+    OnTrue d.ended ((said : Inserted) × Inserts said l before after × IsRefused said l before × Tells before.seen before.cache) ×
+    OnFalse d.ended (after ≡ before)
 
 -- and so each of them, one after the other
 abbrev pub Reloads : List Due → List (Option Loaded) → Writer → Writer → Type 0

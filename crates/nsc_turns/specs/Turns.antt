@@ -23,12 +23,15 @@ Stops (Err stop) count before after = (count ≡ stop.count) × (after ≡ passe
 
 -- a lookup completes with this reply; hits and misses may have been counted
 abbrev pub CompletesWith : Result Turn Stopped → Writer → Writer → List ℕ → Type 0
-CompletesWith (Ok turn) before after reply = (after ≡ record before { cache = turn.cache; seen = turn.adds ++ before.seen; hits = after.hits; misses = after.misses }) × (turn.reply ≡ reply)
+CompletesWith (Ok turn) before after reply =
+    (after ≡ record before { cache = turn.cache; seen = turn.adds ++ before.seen; hits = after.hits; misses = after.misses }) × (turn.reply ≡ reply)
 CompletesWith (Err stop) before after reply = ⊥
 
 -- a look for the live entry that answers a request: its reply, and its count of reloads begins anew; or the number of invalidations
 abbrev pub Looks : Option Kept → Request → HitOrMiss → Writer → Writer → List ℕ → Type 0
-Looks found request (looked.Hit hit) before after reply = GivesHit found (Some hit) reply × (after ≡ record before { cache = record before.cache { entries = used_now request before.cache.entries }; hits = counted hit.not_found before.hits })
+Looks found request (looked.Hit hit) before after reply =
+    GivesHit found (Some hit) reply ×
+    (after ≡ record before { cache = record before.cache { entries = used_now request before.cache.entries }; hits = counted hit.not_found before.hits })
 Looks found request (looked.Missed epoch) before after reply = GivesHit found None reply × (epoch ≡ before.cache.epoch) × (after ≡ before)
 
 -- a miss is counted
