@@ -19,7 +19,7 @@ use std::time::{Clock, Duration};
 use std::{env, io, thread};
 
 // How long an end waits for lines that are not written yet, in milliseconds.
-const LAST_LINES: u64 = 200;
+const LAST_LINES: u64 = 1000;
 
 fn main(rt: HostRuntime) -> ExitCode {
     let Ok(lines) = lines(&rt) else {
