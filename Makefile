@@ -50,7 +50,7 @@ build/frames: tools/make-frames examples/machine.txt $(wildcard examples/machine
 help:
 	@echo 'make run          shows a small machine, its questions and replies; needs rt, or a program that is built'
 	@echo 'make build        proves and builds the program, build/nscd; needs rt'
-	@echo 'make test         proves everything, and runs every test; needs rt, and takes an hour or more'
+	@echo 'make test         proves everything, and runs every test; needs rt; README.md says how long it takes'
 	@echo 'make bench        measures; needs rt'
 	@echo 'make fuzz         reads bytes that libFuzzer makes, beside second readings, for some twenty minutes; needs rt and clang++'
 	@echo 'make hostile      gives the program hostile input for some minutes; needs python3, and cc for refused allocations'
