@@ -13,7 +13,7 @@ from telling import lines_of
 
 HOST_BY_NAME = 4
 PAGE = 4096  # bytes that the pipe takes
-END = 2.0  # seconds from -K to the end of the process, and for a start that fails
+END = 3.0  # seconds, of which the last lines have one, from -K to the end of the process, and for a start that fails
 TICK = 17.0  # seconds in which a tick comes
 ASKED = {
     "passwd": (PASSWD_BY_NAME, b"nobody%d\0"),
